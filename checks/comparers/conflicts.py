@@ -17,6 +17,7 @@ from functools import partial
 from operator import mul
 from pathlib import Path
 
+from checks.comparers.beside import wrong_beside
 from checks.comparers.causes import wrong_trials
 from checks.comparers.chains import wrong_chains
 from checks.shared.arguments import asked
@@ -300,10 +301,12 @@ def differences(grammar, text):
     lost = {int(it) for it in re.findall(r"rule (\d+) is never reduced", text)}
     if lost != checked.lost():
         return f"rules never reduced: {sorted(lost)} for {sorted(checked.lost())}"
-    wrong = wrong_counts(checked.tables, text) or wrong_trials(checked, text)
-    if wrong:
-        return wrong
-    return wrong_kinds(checked, parts, text)
+    return (
+        wrong_counts(checked.tables, text)
+        or wrong_trials(checked, text)
+        or wrong_kinds(checked, parts, text)
+        or wrong_beside(checked, parts)
+    )
 
 
 # What is counted, so that a run shows that each of it was met.
@@ -317,6 +320,8 @@ COUNTED = {
     "changes that settle some": (" conflicts go when ", " conflicts goes when ", " more when "),
     "rules that others cover": (" without rule ",),
     "copies that split states": ("  With a copy of ",),
+    "hints that settle others": (", that also settles conflict",),
+    "kernel items of shifts": (" can begin what comes next in:\n",),
     "pairs of rules": (" conflicts stand between ", " conflicts stands between "),
     "with error": ("  Not tried",),
     "missed by a parse": ("settled otherwise", "given up"),

@@ -4,9 +4,10 @@
 
 The conflicts of each grammar of the scenarios, and of random ones: their counts, cells and kinds,
 their states, tokens, rules and counterexamples, the warnings, and each line as gcc has it. The
-numbers of conflicts in the report are the places of kinds in the document. Columns of rules are
-looked up in the file. Then verdicts on random inputs. The last line is
-`N passed, M failed`: grammars.
+numbers of conflicts in the report are the places of kinds in the document. Every place is looked up
+in the file: of rules, of conflicts, of warnings; and again in a file of bison, where names that an
+import takes out stand before it on its line. Then verdicts on random inputs, and faults of tokens
+files, each at its word. The last line is `N passed, M failed`: grammars.
 """
 import json
 import random
@@ -35,6 +36,23 @@ NUMBER = re.compile(r"conflict (\d+): ")
 OTHERS = re.compile(r"  (?:The same|Also) on \d+ other tokens?, conflicts? (.*):")
 TOKEN = re.compile(r"'.[^']*'|\S+")
 WORDS = {"shift": "shift", "accept": "shift", "reduce": "reduce"}
+# Warnings about a symbol, and what is said of a rule.
+SYMBOL = re.compile(
+    r"(?:the precedence of |the token )?('.[^']*'|\S+)"
+    r" (?:settles nothing|is declared and used nowhere|can't be reached from the start)"
+)
+LEFT_SIDE = re.compile(
+    r"(?:rule \d+ is never reduced, since it lost every cell:  |.* conflict on .*?, not rule \d+ \()"
+    r"(\S+): .*"
+)
+IDLE = re.compile(r"the %prec of rule \d+ (?:settles|may settle) nothing")
+# What rules begin with, where the left side isn't told.
+SOME_RULE = r"[A-Za-z_.][\w.]*(?:\[\w+\])?\s*:|\|"
+FOREIGN = re.compile(r"foreign\.y:(\d+)(?::(\d+))?: \w+: (.*)")
+# In the text of a grammar that was drawn: a left side, what a body begins with, a listed token.
+LEFT, FIRST, LISTED = (
+    re.compile(it) for it in (r"(?m)^([a-z]+)(?= :)", r"([:|] [A-Za-z]+)", r"\b([A-Z]+)\b")
+)
 
 
 class Names:
@@ -136,17 +154,49 @@ def wrong_places(parts, kinds, text):
     return None if fits else f"conflicts {sorted(told)}, told {len(kinds)}"
 
 
+def front_of(left):
+    """What a rule of this left side begins with: that, a bar, or the brace of an inner action."""
+    return r"\{" if left.startswith("$$") else rf"{re.escape(left)}\b|\|"
+
+
+def wrong_place(source, told, front):
+    """What is wrong with a place: it lacks, or something else stands there."""
+    if told["column"] is None:
+        return f"no column: {told}"
+    rest = source.split(b"\n")[told["line"] - 1][told["column"] - 1 :]
+    return None if re.match(front.encode(), rest) else f"{front} at {told}"
+
+
 def wrong_columns(source, kinds):
-    """What is wrong with the columns of rules: there stands a left side, or a bar."""
-    lines = source.split(b"\n")
-    for rule in (rule for kind in kinds for rule in kind["rules"]):
-        left = rule["text"].split(":")[0].encode()
-        if rule["column"] is None:
-            continue
-        rest = lines[rule["line"] - 1][rule["column"] - 1 :]
-        if not rest.startswith((left, b"|")):
-            return f"no rule begins at {rule}"
+    """What is wrong with the columns of rules: there they begin."""
+    rules = (rule for kind in kinds for rule in kind["rules"])
+    wrong = (wrong_place(source, it, front_of(it["text"].split(":")[0])) for it in rules)
+    return next(filter(None, wrong), None)
+
+
+def wrong_heads(kinds, diagnostics):
+    """What is wrong with the places of conflicts: those of their first rules that aren't taken."""
+    for kind, told in zip(kinds, diagnostics):
+        first = kind["rules"][kind["taken"] == "reduce"]
+        if (told["line"], told["column"]) != (first["line"], first["column"]):
+            return f"{first}, told {told}"
     return None
+
+
+def front_in(message):
+    """What stands at the place of a conflict or a warning: a symbol, whose literals may be spelled
+    otherwise, or the front of a rule; nothing where it is neither."""
+    if found := SYMBOL.fullmatch(message):
+        return "'" if found[1][0] == "'" else rf"{re.escape(found[1])}\b"
+    found = LEFT_SIDE.fullmatch(message)
+    return front_of(found[1]) if found else IDLE.fullmatch(message) and SOME_RULE
+
+
+def wrong_spots(source, diagnostics):
+    """What is wrong with the places of conflicts and warnings."""
+    fronts = [front_in(it["message"]) for it in diagnostics]
+    wrong = (wrong_place(source, it, front) for it, front in zip(diagnostics, fronts) if front)
+    return next(filter(None, wrong), None)
 
 
 def wrong_warnings(text, diagnostics):
@@ -170,6 +220,7 @@ def wrong_conflicts(source, text, found, diagnostics):
     if kinds and kinds[0]["lists"] is None:
         return f"no lists: {kinds[0]}"
     wrong = wrong_counts(text, found) or wrong_columns(source, kinds)
+    wrong = wrong or wrong_heads(kinds, diagnostics) or wrong_spots(source, diagnostics)
     wrong = wrong or wrong_warnings(text, diagnostics) or wrong_places(parts, kinds, text)
     return wrong or next(filter(None, (wrong_block(it, kinds) for it in parts)), None)
 
@@ -197,6 +248,24 @@ def wrong_report(ydebug, room):
     if any(it.returncode != text.returncode for it in made):
         wrong = f"statuses {[it.returncode for it in made]}"
     return wrong or (document.stderr + lines.stderr) or None
+
+
+def foreign_text(text):
+    """The same grammar as a file of bison: with names and strings that an import takes out."""
+    text = FIRST.sub(r"\1[it]", LEFT.sub(r"\1[all]", text))
+    lines = (LISTED.sub(r'\1 "\1"', it) if it.startswith("%token") else it for it in text.split("\n"))
+    return "\n".join(lines)
+
+
+def wrong_import(ydebug, room, text):
+    """What is wrong with the places in the same grammar as a file of bison."""
+    source = foreign_text(text)
+    (Path(room) / "foreign.y").write_text(source)
+    words = [ydebug, "conflicts", "foreign.y", "--from=bison", "--format=gcc"]
+    found = filter(None, map(FOREIGN.fullmatch, ran(words, room).stdout.splitlines()))
+    told = [{"line": int(it[1]), "column": it[2] and int(it[2]), "message": it[3]} for it in found]
+    wrong = wrong_spots(source.encode(), told)
+    return wrong and f"{source}{wrong}"
 
 
 PLAIN = {
@@ -241,6 +310,21 @@ def wrong_verdicts(ydebug, room, inputs):
     return next(filter(None, [*wrong, *map(wrong_token, inputs, sheets)]), None)
 
 
+def wrong_fault(ydebug, room, tokens, rng):
+    """What is wrong with the place of a word that is no token, among others and blanks."""
+    at = rng.randrange(len(tokens) + 1)
+    text = ""
+    for word in [*tokens[:at], "no-token", *tokens[at:]]:
+        text += rng.choice([" ", "\t", "\n", "\n\n  "]) + word
+    (Path(room) / "fault").write_text(text)
+    words = [ydebug, "check", "grammar.y", "fault", "--format=json"]
+    told = json.loads(ran(words, room).stdout)["diagnostics"][0]
+    lines = text[: text.index("no-token")].split("\n")
+    place = len(lines), len(lines[-1]) + 1
+    fits = told["message"].startswith("K1: ") and (told["line"], told["column"]) == place
+    return None if fits else f"{text!r}: {place}, told {told}"
+
+
 def inputs_of(grammar, rng):
     """Random lists of tokens that a tokens file can have."""
     names = grammar.names[2 : grammar.tokens] or ["$end"]
@@ -252,7 +336,8 @@ def compared(ydebug, room, rng):
     grammar = productive(rng)
     (Path(room) / "grammar.y").write_text(grammar.text)
     inputs = inputs_of(grammar, rng) if grammar.tokens > 2 else [[]]
-    wrong = wrong_report(ydebug, room) or wrong_verdicts(ydebug, room, inputs)
+    wrong = wrong_report(ydebug, room) or wrong_import(ydebug, room, grammar.text)
+    wrong = wrong or wrong_verdicts(ydebug, room, inputs) or wrong_fault(ydebug, room, inputs[0], rng)
     return [f"{grammar.text}{wrong}\n"] if wrong else []
 
 

@@ -4,16 +4,20 @@
 
 `ydebug check --lex` must say of each text what the SPEC, cut by `re`, and a plain machine say, byte
 for byte; `ydebug tokens` must write these tokens. Spoiled SPECs and texts must be refused by name,
-or judged. A session over each text must go on to its end. The first fault ends the run: its files
-stay in a folder that is named. The last line is `N passed, M failed`: grammars.
+or judged. A session over each text must go on to its end. The texts that `ydebug sentences` and
+`ydebug errors` write must be cut into the tokens for which they stand, and a listing of errors must
+be a file of messages. The first fault ends the run: its files stay in a folder that is named. The
+last line is `N passed, M failed`: grammars.
 """
 import random
 import re
 import shutil
 import tempfile
 from collections import Counter
+from functools import partial
 from pathlib import Path
 
+from checks.comparers import written
 from checks.shared import running
 from checks.shared.arguments import asked
 from checks.shared.grammars import END, ERROR, productive, tokens_of
@@ -32,7 +36,13 @@ LOOKS = {
     "<=?": ["<", "<="],
     r"\+\+": ["++"],
     "(ab)+c?": ["ab", "ababc"],
+    "<=": ["<="],
+    "num": ["num"],
+    r'"\\': ['"\\'],
+    "[-]>": ["->"],
 }
+# Those that match one text alone.
+PLAIN = {r"\+\+": "++", "<=": "<=", "num": "num", r'"\\': '"\\', "[-]>": "->"}
 SKIPS = [r"[ \t\n]+", r"#[^\n]*", "~", r"[ \n]"]
 BLANKS = [" ", "\n", "  ", "\t", "\n\n"]
 # What only some SPECs, and what none pass over.
@@ -47,7 +57,7 @@ NAMED = re.compile(
     r"|no token of the grammar has this name"
     r"|an input has tokens alone, and neither error nor \$end"
     r"|no directive of a SPEC; there are %skip, %keywords and %none)"
-    r"|text:\d+:\d+: (no line of the SPEC matches here: .+|unexpected \S+[,;] .+)"
+    r"|text:\d+:\d+: (no line of the SPEC matches here: .+|unexpected (\S+|\".+\")[,;] .+)"
     r"|text: (accepted after \d+ steps|undecided after 1,000,000 steps)"
 )
 
@@ -86,9 +96,9 @@ class Spec:
             self.absent.add(token)
             self.lines.append((2, f"%none {name}", None))
         else:
-            look = rng.choice([*LOOKS])
-            self.texts += LOOKS[look]
-            self.lines.append((3, f"{name}  {look}", (token, re.compile(look.encode()))))
+            for look in rng.sample([*LOOKS], rng.choice([1, 1, 1, 2])):
+                self.texts += LOOKS[look]
+                self.lines.append((3, f"{name}  {look}", (token, re.compile(look.encode()))))
 
     def text(self):
         """The text of the SPEC."""
@@ -131,6 +141,14 @@ class Spec:
             at += length
         return tokens, end
 
+    def called(self, token):
+        """What people are told of a token: its name, or the text that it always is."""
+        texts = [PLAIN.get(rule.pattern.decode()) for it, rule in self.rules if it == token]
+        if not texts or None in texts or self.cut(texts[0].encode()) != ([(token, 0)], len(texts[0])):
+            return self.grammar.names[token]
+        shown = texts[0].replace("\\", r"\\").replace('"', r'\"')
+        return f'"{shown}"'
+
 
 def text_of(spec, tokens, rng):
     """A text, mostly of the looks of tokens."""
@@ -140,14 +158,14 @@ def text_of(spec, tokens, rng):
     looks = [*spec.texts, *literals] or ["a"]
     some = [rng.choice(looks) for _ in range(rng.randint(0, 12))]
     if rng.random() < 0.7:
-        some = [written(spec, token, rng) for token in tokens]
+        some = [look_of(spec, token, rng) for token in tokens]
     some = [it + rng.choice(blanks) for it in some]
     if rng.random() < 0.2:
         some.insert(rng.randint(0, len(some)), rng.choice(JUNK))
     return "".join(some).encode()
 
 
-def written(spec, token, rng):
+def look_of(spec, token, rng):
     """A text of a token."""
     name = spec.grammar.names[token]
     lines = [line for _, line, _ in spec.lines]
@@ -196,13 +214,13 @@ def can_come(tables, tokens, token):
     return ended and (ended[2] or token != END and ended[0] > len(tokens))
 
 
-def expected(tables, tokens):
+def expected(tables, spec, tokens):
     """What could come in place of what came; none where that takes too long to say."""
     every = [it for it in range(tables.grammar.tokens) if it != ERROR]
     can = [can_come(tables, tokens, it) for it in every]
     if None in can:
         return None
-    names = [tables.grammar.names[it] for it, yes in zip(every, can) if yes]
+    names = [spec.called(it) for it, yes in zip(every, can) if yes]
     if not names:
         return "; no token can come"
     if len(names) > 20:
@@ -224,11 +242,11 @@ def answer(tables, spec, text):
     taken, steps, good = ended
     if good:
         return f"text: accepted after {steps} steps\n"
-    wanted = expected(tables, symbols[:taken])
+    wanted = expected(tables, spec, symbols[:taken])
     ahead, at = tokens[taken] if taken < len(tokens) else (END, end)
     line, column = spot(text, at)
-    name = tables.grammar.names[ahead]
-    said = f"text:{line}:{column}: unexpected {name}{wanted}\n" + shown_line(text, at)
+    called = spec.called(ahead)
+    said = f"text:{line}:{column}: unexpected {called}{wanted}\n" + shown_line(text, at)
     return said if wanted else None
 
 
@@ -298,6 +316,10 @@ def fault_in(folder, ydebug, rng, counts):
         fault = fault_of_text(folder, ydebug, tables, spec, counts)
         if fault:
             return fault
+    parse = partial(parsed, tables)
+    fault = written.fault_of_written(folder, ydebug, spec, parse, counts)
+    if fault:
+        return fault
     return fault_of_spoiled(folder, ydebug, rng, counts)
 
 

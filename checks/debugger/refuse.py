@@ -51,11 +51,13 @@ COMMANDS = {
     "ungiven": (HERE / "lex", "check grammar.y --lex refused-ungiven/bad.lex good.sql"),
     "bison": (HERE / "from-bison", "check grammar.y tokens --from bison"),
     "bison text": (HERE / "from-bison", "tokens grammar.y --from bison --lex text/e.lex text/good"),
+    "bison names": (HERE / "from-bison", "check grammar.y --from bison --lex text/e.lex text/bad"),
     "page": (HERE / "lex/page-places", "page grammar.y --lex sums.lex sums.txt -o page"),
     "bison page": (HERE / "from-bison", "page grammar.y tokens --from bison --conflicts -o page"),
     "sentences": (HERE / "sentences", "sentences grammar.y --cover actions --near"),
     "drawn": (HERE / "sentences", "sentences grammar.y --random 3"),
     "kept": (HERE / "sentences", "sentences odd.y --save lists"),
+    "told": (HERE / "sentences", "sentences query.y --near --lex query.lex --save lists"),
     "cover": (HERE / "cover", "cover grammar.y one two"),
     "rules": (HERE / "rules", "rules grammar.y"),
     "header": (HERE / "rules", "rules grammar.y --header sums.h --python sums.py"),
@@ -70,6 +72,11 @@ COMMANDS = {
     "complete": (HERE / "errors", "errors sums.y --messages incomplete/own --complete"),
     "update": (HERE / "errors", "errors sums.y --messages update/own --update"),
     "messages": (HERE / "check/messages", "check sums.y one two --messages sums.messages"),
+    "data": (HERE / "errors/spelled-table", "errors grammar.y --messages own --table y.msg --from bison"),
+    "told errors": (HERE / "errors/texts-without", "errors blocks.y --lex blocks.lex"),
+    "told messages": (
+        HERE / "check/messages-as-texts", "check sums.y one two --lex sums.lex --messages own"
+    ),
 }
 # A line whose answer takes no memory, and that answer.
 MARK = "help quit"

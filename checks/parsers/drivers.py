@@ -5,7 +5,8 @@
 Over the grammar and tokens of every scenario and example, and over 1,000 random ones, both drivers
 make the steps of `ystep`, line for line, the digest of the table is that of `ydebug rules`, and what
 they say of the first error is what `ydebug check` says. With messages for some states of a few
-grammars they say what `ydebug check --messages` says, for each input of `ydebug errors`. Of
+grammars, one of them a file of bison with strings for its tokens, they say what
+`ydebug check --messages` says, for each input of `ydebug errors`. Of
 10,000 tables with bytes changed or cut both say the same: the line that is at fault, or the same
 steps. Each beginning of a table is refused with its last line. C runs as it is and with the
 sanitizers of the compiler (CC, or cc). Both calculators, and the program of the tutorial, answer as
@@ -180,8 +181,8 @@ def compare_wrong_messages(told, program, rng, tally):
 def compare_messages(built, way, programs, rng, tally):
     """What drivers with messages say of the inputs of some grammars against `ydebug`, and of
     messages that are spoiled."""
-    for grammar in messages.grammars():
-        told = messages.told_of(grammar, way, programs)
+    for grammar, options in messages.languages():
+        told = messages.told_of(grammar, way, programs, options)
         cases, data = told.cases, told.data
         answers = {it: steps_of_c(program, cases, MOST, data) for it, program in built.items()}
         answers["python"] = [steps_of_python(*case, MOST, data) for case in cases]

@@ -19,6 +19,14 @@ TEXTS = (
 )
 # A block of such a file, and the first line of one.
 BLOCK = re.compile(r"((?:.+\n)+)\nunexpected \$0, expected \$expected\n\n?")
+# A file of bison with strings for its tokens, one of them for the end, and a string without one.
+FOREIGN = b"""\
+%token NUM "number" NAME LE "<=" END 0 "end of input"
+%%
+tests : test | tests ';' test ;
+test : value "<=" value | "not" test ;
+value : NUM | NAME | '(' value ')' ;
+"""
 INPUT = re.compile(r"(?m)^(.+)\n## state")
 REJECTED = re.compile(rb"input: rejected at token \d+: (.*?)\n  (?:after|at the start)", re.DOTALL)
 
@@ -29,6 +37,11 @@ def grammars():
     queries = ["".join(lines) for kind, name, lines, _ in blocks
                if kind == "file" and name == "queries.y"]
     return [(DRIVERS / "calculator.y").read_bytes(), *(it.encode() for it in queries[:1])]
+
+
+def languages():
+    """These grammars and a file of bison, each with the options that it is given with."""
+    return [*((it, []) for it in grammars()), (FOREIGN, ["--from", "bison"])]
 
 
 def with_texts(listed):
@@ -69,19 +82,26 @@ class Told(NamedTuple):
     texts: list
 
 
-def told_of(grammar, way, programs):
-    """What `ydebug` says of the inputs of a grammar."""
+def table_of(files, way, programs, options):
+    """The table of a grammar, or of what a file of bison becomes."""
+    if options:
+        imported = told_by(way, programs, [run_of(["ydebug", "import", "grammar"], files)])[0]
+        files = {"grammar": imported["stdout"]}
+    return told_by(way, programs, [run_of(["yacc", "grammar"], files)])[0]["left/y.tab"]
+
+
+def told_of(grammar, way, programs, options=()):
+    """What `ydebug` says of the inputs of a grammar, which is given with these options."""
     files = {"grammar": grammar}
-    listing, table = told_by(way, programs, [
-        run_of(["ydebug", "errors", "grammar"], files), run_of(["yacc", "grammar"], files)
-    ])
+    table = table_of(files, way, programs, options)
+    listing = told_by(way, programs, [run_of(["ydebug", "errors", "grammar", *options], files)])[0]
     files["messages"] = with_texts(listing["stdout"])
-    words = ["ydebug", "errors", "grammar", "--messages", "messages", "--table", "y.msg"]
+    words = ["ydebug", "errors", "grammar", "--messages", "messages", "--table", "y.msg", *options]
     made = told_by(way, programs, [run_of(words, {**files, "y.msg": b""})])[0]
     inputs = inputs_of(listing["stdout"])
-    words = ["ydebug", "check", "grammar", "input", "--messages", "messages"]
+    words = ["ydebug", "check", "grammar", "input", "--messages", "messages", *options]
     said = told_by(way, programs, [run_of(words, {**files, "input": it}) for it in inputs])
     wanted = [REJECTED.match(it["stdout"]) for it in said]
-    cases = [(table["left/y.tab"], names_of(it)) for it in inputs]
+    cases = [(table, names_of(it)) for it in inputs]
     texts = [it[1].decode().replace("\n", "\\n") if it else None for it in wanted]
     return Told(grammar, files["messages"], made["left/y.msg"], cases, texts)

@@ -1,11 +1,12 @@
 """The comparers: programs that say something else than the machines."""
 import random
 from collections import Counter
+from functools import partial
 from unittest import mock
 
 from checks.comparers import (
     ambiguities, causes, conflicts, coverage, documents, errors, faults, hints, programs, texts,
-    verdicts
+    verdicts, written
 )
 from checks.shared.grammars import grammar_of
 from checks.shared.machine import replies_of
@@ -150,6 +151,19 @@ class Conflicts(Planted):
         told = "  With a copy of x, which has the same rules, in rule 1 (line 2) 0 of 2 conflicts are left.\n"
         self.assertEqual(causes.COPY.findall(told), [("x", "1", "0", "2")])
 
+    def test_beside(self):
+        """Conflicts that a hint is told to settle, or a kernel item, too many or too few."""
+        report, look = self.look("sums-and-products")
+        also = "settles conflicts 1, 3 to 4"
+        pairs = [(also, also.replace("1, ", "")), (also, also.replace("1, 3", "1"))]
+        self.each_caught(look, report, *changed(report, *pairs))
+        report, look = self.look("kernel-items")
+        item = "    rule 1 (line 3)  stat: EXPLAIN . storage constants NAME\n"
+        begins = "  STATIC can begin what comes next in:\n"
+        other = item.replace("rule 1 (line 3)", "rule 2 (line 4)")
+        pairs = [(item, other), (begins + item, ""), (item, item + other)]
+        self.each_caught(look, report, *changed(report, *pairs))
+
     def test_none(self):
         """A conflict that isn't told, and one that isn't there."""
         report, look = self.look("dangling-else")
@@ -192,6 +206,27 @@ class Documents(Planted):
         pairs = [("grammar.y:14:1:", "grammar.y:14:2:"), ("warning: ", "note: "), ("rule 9", "rule 8")]
         less = self.lines.split("\n", 1)[1]
         self.each_caught(look, self.lines, *changed(self.lines, *pairs), less)
+
+    def test_places(self):
+        """A place where something else stands, one that lacks, and that of another conflict."""
+        source = b"%token A '+'\n%%\ns : A { x } A\n  | s '+'\n  ;\n"
+        lost = "is never reduced, since it lost every cell:  "
+        for message, line, column in (
+            ("the token A is declared and used nowhere", 1, 8),
+            ("'\\053' can't be reached from the start", 1, 10),
+            (f"rule 1 {lost}$$1: (empty)", 3, 7),
+            ("shift/reduce conflict on ',' in state 1: the shift is taken, not rule 3 (s: s)", 4, 3),
+            (f"rule 3 {lost}s: s '+'", 4, 3),
+            ("the %prec of rule 2 settles nothing", 3, 1),
+        ):
+            told = {"message": message, "line": line}
+            look = lambda it: documents.wrong_spots(source, [told | {"column": it}])
+            self.each_caught(look, column, column + 1, None)
+        rule = {"rule": 3, "line": 4, "column": 3, "text": "s: s '+'"}
+        look = lambda it: documents.wrong_columns(source, [{"rules": [rule | it]}])
+        self.each_caught(look, {}, {"column": 2}, {"column": None}, {"line": 3})
+        look = lambda it: documents.wrong_heads([{"taken": "shift", "rules": [rule]}], [rule | it])
+        self.each_caught(look, {}, {"column": 4}, {"line": 3})
 
     def test_blocks(self):
         """Further tokens of a block: each stands once, and differs from the first by its token."""
@@ -263,8 +298,8 @@ class Hints(Planted):
         self.assertEqual([it[2] for it in hints.judged(self.draw, missed)], [False])
 
 
-class Texts(Planted):
-    """Verdicts on texts, and tokens, that are wrong."""
+class OverTexts(Planted):
+    """A grammar, and a SPEC for it."""
 
     def setUp(self):
         """Lays a grammar, a SPEC and a text with a mistake, and knows what is said of it."""
@@ -277,6 +312,10 @@ class Texts(Planted):
         self.spec.lines.append((3, "NUM  [0-9]+", (2, texts.re.compile(b"[0-9]+"))))
         self.spec.rules = [it[2] for it in self.spec.lines]
         (self.room / "text").write_bytes(b"1 +\n2 3 +\n")
+
+
+class Texts(OverTexts):
+    """Verdicts on texts, and tokens, that are wrong."""
 
     def fault(self, check=None, tokens="NUM '+' NUM NUM '+'\n", status=1, session=0):
         """What is found where `ydebug` says this."""
@@ -296,6 +335,18 @@ class Texts(Planted):
         wanted = "text:2:3: unexpected NUM, expected $end or '+'\n    2 3 +\n      ^\n"
         self.assertEqual(texts.answer(self.tables, self.spec, b"1 +\n2 3 +\n"), wanted)
         self.assertIsNone(self.fault())
+
+    def test_called(self):
+        """A token is called by its text where each of its lines has one, and no other takes that."""
+        for looks, called in (
+            (("<=", "[-]>"), '"<="'), (('"\\\\', "<="), r'"\"\\"'), (("<=", "[0-9]+"), "NUM"), ((), "NUM")
+        ):
+            self.spec.rules = [(2, texts.re.compile(it.encode())) for it in looks]
+            self.assertEqual(self.spec.called(2), called)
+        self.spec.rules = [(2, texts.re.compile(b"num"))]
+        self.spec.words = [(3, b"NUM", True)]
+        self.assertEqual(self.spec.called(2), "NUM")
+        self.assertEqual(self.spec.called(3), "'+'")
 
     def test_each_change(self):
         """Another column, token, caret, status; a token less; a session that fails."""
@@ -317,6 +368,53 @@ class Texts(Planted):
             with mock.patch.object(texts, "run", return_value=answer):
                 fault = texts.fault_of_spoiled(self.room, "ydebug", random.Random(1), Counter())
             self.assertEqual(bool(fault), found, answer)
+
+
+class Written(OverTexts):
+    """Texts that haven't the tokens for which they stand."""
+
+    PLAIN = "# sentence 1, the first to use rules 1, 2\nNUM '+' NUM\n# 1 sentence uses all 2 rules\n"
+    TEXT = PLAIN.replace("NUM '+' NUM", "1 + 1")
+    NEAR = TEXT + "# token 3 left out: rejected at token 3: unexpected $end, expected NUM\n1 +\n"
+    LISTING = (
+        "## head\n\n+\n## tokens   '+'\n## state 0\n\nno\n\n"
+        "1 + $end\n## tokens   NUM '+' $end\n## state 4\n\nno\n\n## end\n"
+    )
+
+    def fault(self, plain=PLAIN, text=TEXT, near=NEAR, listing=LISTING, anew=None, status=0):
+        """What is found where `ydebug` says this."""
+
+        def run(_, __, form, ___, *words):
+            """A run of one of the forms."""
+            if form == "sentences":
+                said = {0: plain, 2: text, 3: near}[len(words)]
+                return status, said, ""
+            if "--update" in words:
+                (self.room / "made").write_text(listing if anew is None else anew)
+            if "--complete" in words:
+                return 0, "made: 2 inputs, complete\n", ""
+            return 0, listing, ""
+
+        parse = partial(texts.parsed, self.tables)
+        with mock.patch.object(written, "run", run):
+            return written.fault_of_written(self.room, "ydebug", self.spec, parse, Counter())
+
+    def test_right(self):
+        """What is right is no fault, and neither is a list without a text."""
+        self.assertIsNone(self.fault())
+        self.assertIsNone(self.fault(text=self.TEXT.replace("1 + 1", "# no text: NUM '+' NUM")))
+        self.assertIsNone(self.fault(text=self.TEXT.replace("1 + 1", "# a text of 2 lines:\n1 +\n1")))
+
+    def test_each_change(self):
+        """A token less, what nothing matches, other tokens, another verdict; a listing that changes."""
+        for wrong in changed(self.TEXT, ("1 + 1", "1 +"), ("1 + 1", "a"), ("1 + 1", "# no text: NUM")):
+            self.assertTrue(self.fault(text=wrong), wrong)
+        for wrong in changed(self.NEAR, ("token 3:", "token 2:"), ("\n1 +\n", "\n1\n")):
+            self.assertTrue(self.fault(near=wrong), wrong)
+        for wrong in changed(self.LISTING, ("\n+\n", "\n1\n"), ("$end\n##", "\n##"), ("## state 4", "##")):
+            self.assertTrue(self.fault(listing=wrong), wrong)
+        self.assertTrue(self.fault(anew="another"))
+        self.assertTrue(self.fault(status=1))
 
 
 REPLIES = "1 shift A\n2 detect\n3 pop A\n4 fail\n"

@@ -151,6 +151,26 @@ class Drivers(Planted):
             wanted = text or "after <{}> no <{}>".format(*symbols)
             self.assertEqual(told, [wanted])
 
+    def test_spelled(self):
+        """A token stands by what the messages call it, unless the program says what stands there;
+        symbols are spelled in their order, before the states."""
+        digest, called = drivers.digest_of(TABLE), b'spelled 0 3 end\nspelled 2 3 "x"\n'
+        front, state = b"messages 1\ntable %d\n" % digest, b"state 9\nvalue 0\n"
+        said = drivers.read_messages(front + called + state + b"end\n", digest)
+        for show, text in ((None, 'unexpected "x", expected end'),
+                           (lambda *_: "ex", "unexpected ex, expected end")):
+            told = []
+            parser = drivers.Parser(
+                drivers.read_table(TABLE),
+                error=lambda token, place: told.append(said.of(parser, token, place, show)),
+            )
+            for _ in range(2):
+                parser.push("'x'")
+            self.assertEqual(told, [text])
+        for lines in (called[16:] + called[:16], state + called, called[:16] * 2):
+            refused = drivers.read_messages(front + lines + b"end\n", digest)
+            self.assertIsInstance(refused, drivers.Fault)
+
     def test_verdicts(self):
         """What a verdict says of an error."""
         told = b"tokens: rejected at token 2: unexpected 'x', expected $end; can't tell of 'y'\n  after"

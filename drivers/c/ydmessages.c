@@ -4,7 +4,7 @@
 #include <stdlib.h>
 #include <string.h>
 
-enum { STATES = 16384, LONGEST = 16777216, MOST_NUMBER = 99, MOST_NAMED = 20 };
+enum { SYMBOLS = 4096, STATES = 16384, LONGEST = 16777216, MOST_NUMBER = 99, MOST_NAMED = 20 };
 
 /* A piece of a message: bytes; an entry of the stack, 0 for the token; or the tokens that could
    come. */
@@ -17,9 +17,17 @@ typedef struct {
   const char *text;
 } piece;
 
+/* What a symbol is called. */
+typedef struct {
+  uint32_t symbol;
+  uint32_t length;
+  const char *text;
+} spelling;
+
 struct yd_messages {
-  size_t count;
-  piece *pieces; /* by states */
+  size_t count, spellings;
+  piece *pieces;     /* by states */
+  spelling *spelled; /* by symbols */
 };
 
 /* ---- Reading ---- */
@@ -33,9 +41,10 @@ typedef struct {
 
 /* What is read so far, and where it goes, once that has its memory. */
 typedef struct {
-  size_t count, bytes;
+  size_t count, spellings, bytes;
   uint32_t state;
   int has_state;
+  uint32_t symbol; /* the one after the last that was spelled */
   yd_messages *messages;
   char *free_text;
 } content;
@@ -45,15 +54,14 @@ static int refuse(reader *from, const char *what) {
   return 0;
 }
 
-static int sees(const reader *from, char byte) {
-  return from->text < from->end && *from->text == byte;
+static int sees(const reader *from, const char *word) {
+  size_t length = strlen(word);
+  return (size_t)(from->end - from->text) >= length && !memcmp(from->text, word, length);
 }
 
 static int take(reader *from, const char *word) {
-  size_t length = strlen(word);
-  if ((size_t)(from->end - from->text) < length || memcmp(from->text, word, length))
-    return refuse(from, "something else is wanted here");
-  from->text += length;
+  if (!sees(from, word)) return refuse(from, "something else is wanted here");
+  from->text += strlen(word);
   return 1;
 }
 
@@ -83,17 +91,39 @@ static void add(content *found, piece read) {
   found->count++;
 }
 
-/* Reads bytes, which may have newlines among them. */
-static int take_text(reader *from, content *found) {
+/* Reads bytes, which may have newlines among them, and keeps them. */
+static int take_bytes(reader *from, content *found, uint32_t *count, const char **text) {
   uint64_t length;
   if (!take_number(from, LONGEST, &length) || !take(from, " ")) return 0;
   if ((uint64_t)(from->end - from->text) < length) return refuse(from, "there are fewer bytes");
   if (found->messages) memcpy(found->free_text, from->text, length);
-  add(found, (piece){TEXT, 0, (uint32_t)length, found->free_text});
+  *count = (uint32_t)length;
+  *text = found->free_text;
   if (found->messages) found->free_text += length;
   found->bytes += length;
   for (uint64_t at = 0; at < length; at++) from->line += from->text[at] == '\n';
   from->text += length;
+  return 1;
+}
+
+static int take_text(reader *from, content *found) {
+  piece read = {TEXT, 0, 0, NULL};
+  if (!take_bytes(from, found, &read.number, &read.text)) return 0;
+  add(found, read);
+  return take_newline(from);
+}
+
+/* Reads what a symbol is called, which is after the last one, and before all states. */
+static int take_spelling(reader *from, content *found) {
+  uint64_t symbol;
+  spelling read;
+  if (!take_number(from, SYMBOLS - 1, &symbol)) return 0;
+  if (found->has_state || symbol < found->symbol) return refuse(from, "this line is out of order");
+  if (!take(from, " ") || !take_bytes(from, found, &read.length, &read.text)) return 0;
+  read.symbol = (uint32_t)symbol;
+  found->symbol = read.symbol + 1;
+  if (found->messages) found->messages->spelled[found->spellings] = read;
+  found->spellings++;
   return take_newline(from);
 }
 
@@ -115,10 +145,11 @@ static int take_state(reader *from, content *found) {
 }
 
 static int take_line(reader *from, content *found) {
-  if (sees(from, 's')) return take(from, "state ") && take_state(from, found);
+  if (sees(from, "sp")) return take(from, "spelled ") && take_spelling(from, found);
+  if (sees(from, "s")) return take(from, "state ") && take_state(from, found);
   if (!found->has_state) return refuse(from, "a state is wanted here");
-  if (sees(from, 't')) return take(from, "text ") && take_text(from, found);
-  if (sees(from, 'v')) return take(from, "value ") && take_entry(from, found);
+  if (sees(from, "t")) return take(from, "text ") && take_text(from, found);
+  if (sees(from, "v")) return take(from, "value ") && take_entry(from, found);
   if (!take(from, "expected")) return 0;
   add(found, (piece){EXPECTED, 0, 0, NULL});
   return take_newline(from);
@@ -130,16 +161,18 @@ static int take_messages(reader *from, content *found, unsigned long digest) {
   if (!take_number(from, UINT32_MAX, &made_for)) return 0;
   if (made_for != digest) return refuse(from, "these messages were made for another table");
   if (!take_newline(from)) return 0;
-  while (!sees(from, 'e') || !(from->end - from->text > 1 && from->text[1] == 'n'))
+  while (!sees(from, "en"))
     if (!take_line(from, found)) return 0;
   if (!take(from, "end") || !take_newline(from)) return 0;
   return from->text == from->end ? 1 : refuse(from, "there is more after the end");
 }
 
 static yd_messages *room_for(const content *found) {
-  size_t pieces = found->count * sizeof(piece);
-  yd_messages *messages = malloc(sizeof *messages + pieces + found->bytes);
-  if (messages) *messages = (yd_messages){found->count, (piece *)(messages + 1)};
+  size_t pieces = found->count * sizeof(piece), spelled = found->spellings * sizeof(spelling);
+  yd_messages *messages = malloc(sizeof *messages + pieces + spelled + found->bytes);
+  if (!messages) return NULL;
+  *messages = (yd_messages){found->count, found->spellings, (piece *)(messages + 1), NULL};
+  messages->spelled = (spelling *)(messages->pieces + found->count);
   return messages;
 }
 
@@ -155,7 +188,7 @@ yd_messages *yd_read_messages(const char *text, size_t length, unsigned long dig
   if (!take_messages(&first, &found, digest)) return refused(fault, first.line, first.what);
   filled.messages = room_for(&found);
   if (!filled.messages) return refused(fault, 0, "no memory");
-  filled.free_text = (char *)(filled.messages->pieces + found.count);
+  filled.free_text = (char *)(filled.messages->spelled + found.spellings);
   take_messages(&second, &filled, digest);
   return filled.messages;
 }
@@ -166,6 +199,7 @@ void yd_free_messages(yd_messages *messages) { free(messages); }
 
 /* What a message is filled with, and where it goes. */
 typedef struct {
+  const yd_messages *messages;
   const yd_parser *parser;
   int token;
   yd_span span;
@@ -185,12 +219,30 @@ static void put(filling *to, const char *text, size_t length) {
 
 static void put_word(filling *to, const char *word) { put(to, word, strlen(word)); }
 
-/* Writes a symbol: what stands in the input for it, or its name. */
+/* What a symbol is called; NULL where that is its name. */
+static const spelling *spelling_of(const yd_messages *messages, int symbol) {
+  size_t low = 0, high = messages ? messages->spellings : 0;
+  while (low < high) {
+    size_t middle = low + (high - low) / 2;
+    if ((int)messages->spelled[middle].symbol < symbol) low = middle + 1;
+    else high = middle;
+  }
+  if (!messages || low == messages->spellings) return NULL;
+  return (int)messages->spelled[low].symbol == symbol ? &messages->spelled[low] : NULL;
+}
+
+static void put_called(filling *to, int symbol) {
+  const spelling *called = spelling_of(to->messages, symbol);
+  if (called) put(to, called->text, called->length);
+  else put_word(to, yd_name(to->parser->table, symbol));
+}
+
+/* Writes a symbol: what stands in the input for it, or what it is called. */
 static void put_symbol(filling *to, int symbol, yd_span span) {
   size_t length = 0;
   const char *text = to->show ? to->show(to->context, symbol, span, &length) : NULL;
   if (text) put(to, text, length);
-  if (!text) put_word(to, yd_name(to->parser->table, symbol));
+  else put_called(to, symbol);
 }
 
 /* Writes the token, or an entry of the stack from the top; nothing where there is none. */
@@ -210,7 +262,7 @@ static void put_expected(filling *to) {
   for (size_t at = 0; at < to->count && at < MOST_NAMED; at++) {
     int is_last = at + 1 == to->count && to->count <= MOST_NAMED;
     if (at) put_word(to, is_last ? " or " : ", ");
-    put_word(to, yd_name(to->parser->table, to->tokens[at]));
+    put_called(to, to->tokens[at]);
   }
   if (to->count > MOST_NAMED) put_word(to, ", ..");
 }
@@ -242,7 +294,8 @@ static size_t first_of(const yd_messages *messages, uint32_t state) {
   return low;
 }
 
-static void put_message(filling *to, const yd_messages *messages) {
+static void put_message(filling *to) {
+  const yd_messages *messages = to->messages;
   uint32_t state = to->parser->stack ? (uint32_t)to->parser->top->state : 0;
   size_t at = first_of(messages, state), first = at;
   for (; messages && at < messages->count && messages->pieces[at].state == state; at++)
@@ -252,12 +305,13 @@ static void put_message(filling *to, const yd_messages *messages) {
 
 size_t yd_message(const yd_messages *messages, const yd_parser *parser, int token, yd_span span,
                   yd_show show, void *context, char *buffer, size_t size) {
-  filling to = {parser, token, span, show, context, buffer, size ? size - 1 : 0, 0, NULL, 0};
   int few[MOST_NAMED];
-  to.tokens = few;
+  filling to = {.messages = messages, .parser = parser, .token = token, .span = span,
+                .show = show, .context = context, .buffer = buffer, .size = size ? size - 1 : 0,
+                .tokens = few};
   to.count = yd_expected(parser, few, MOST_NAMED);
   if (to.count == YD_UNKNOWN) return YD_UNKNOWN;
-  put_message(&to, messages);
+  put_message(&to);
   if (size) buffer[to.length < size ? to.length : size - 1] = '\0';
   return to.length;
 }

@@ -18,14 +18,14 @@ yd_messages *yd_read_messages(const char *text, size_t length, unsigned long dig
                               yd_fault *fault);
 void yd_free_messages(yd_messages *messages);
 
-/* What stands in the input for a token or an entry of the stack, with its length; NULL where its
-   name is to stand for it. */
+/* What stands in the input for a token or an entry of the stack, with its length; NULL where it is to
+   stand by what the messages call it, as "<=", or else by its name. */
 typedef const char *(*yd_show)(void *context, int symbol, yd_span span, size_t *length);
 
 /* A message, for the call of an error: writes it to a buffer of `size` bytes, cut if it is longer and
    with a zero byte at its end, and says how long it is. It is that of the state which detects the
-   error; without one, or where `messages` is NULL, it is `unexpected X, expected Y or Z`. `show` may
-   be NULL. YD_UNKNOWN where memory runs out. */
+   error; without one it is `unexpected X, expected Y or Z`, with what the messages call tokens, and
+   where `messages` is NULL by their names. `show` may be NULL. YD_UNKNOWN where memory runs out. */
 size_t yd_message(const yd_messages *messages, const yd_parser *parser, int token, yd_span span,
                   yd_show show, void *context, char *buffer, size_t size);
 

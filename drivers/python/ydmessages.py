@@ -14,12 +14,12 @@ from typing import Any, Callable, Dict, List, Optional, Union
 
 from ydriver import Fault, Parser
 
-STATES, LONGEST, MOST_NUMBER, MOST_NAMED = 16384, 16777216, 99, 20
+SYMBOLS, STATES, LONGEST, MOST_NUMBER, MOST_NAMED = 4096, 16384, 16777216, 99, 20
 NUMBER = re.compile(rb"0|[1-9][0-9]{0,9}")
 
 # Bytes; an entry of the stack, 0 for the token; None for the tokens that could come.
 Piece = Union[bytes, int, None]
-# What stands in the input for a symbol from its first to its last place; None for its name.
+# What stands in the input for a symbol from its first to its last place; None for what it is called.
 Show = Callable[[int, Any, Any], Optional[str]]
 
 
@@ -29,14 +29,15 @@ class _Refused(Exception):
 
 @dataclass
 class Messages:
-    """Messages, each of a state."""
+    """Messages, each of a state, and what symbols are called, where that isn't their names."""
 
     pieces: Dict[int, List[Piece]] = field(default_factory=dict)
+    spelled: Dict[int, str] = field(default_factory=dict)
 
     def of(self, parser: Parser, token: int, place: Any = None, show: Optional[Show] = None) -> str:
         """The message for an error, in the call of that: it is that of the state which detects
-        the error; without one it is `unexpected X, expected Y or Z`."""
-        filling = _Filling(parser, token, place, show)
+        the error; without one it is `unexpected X, expected Y or Z`, with what symbols are called."""
+        filling = _Filling(parser, self.spelled, token, place, show)
         pieces = self.pieces.get(parser.stack[-1].state)
         return filling.plain() if pieces is None else "".join(map(filling.piece, pieces))
 
@@ -46,14 +47,19 @@ class _Filling:
     """What a message is filled with."""
 
     parser: Parser
+    spelled: Dict[int, str]
     token: int
     place: Any
     show: Optional[Show]
 
+    def called(self, symbol: int) -> str:
+        """What a symbol is called."""
+        return self.spelled.get(symbol, self.parser.table.names[symbol])
+
     def symbol(self, symbol: int, first: Any, last: Any) -> str:
-        """What stands in the input for a symbol, or its name."""
+        """What stands in the input for a symbol, or what it is called."""
         text = self.show(symbol, first, last) if self.show else None
-        return self.parser.table.names[symbol] if text is None else text
+        return self.called(symbol) if text is None else text
 
     def entry(self, number: int) -> str:
         """The token, or an entry of the stack from the top; nothing where there is none."""
@@ -66,15 +72,15 @@ class _Filling:
 
     def expected(self) -> str:
         """The first tokens that could come as a list, with dots where there are more."""
-        names = [self.parser.table.names[it] for it in self.parser.expected()]
+        names = [self.called(it) for it in self.parser.expected()]
         if len(names) > MOST_NAMED:
             return ", ".join(names[:MOST_NAMED]) + ", .."
         return " or ".join([", ".join(names[:-1]), names[-1]]) if len(names) > 1 else "".join(names)
 
     def plain(self) -> str:
         """What is said where there is no message of its own."""
-        expected = self.expected()
-        can = f", expected {expected}" if expected else "; no token can come"
+        expected = f", expected {self.expected()}"
+        can = expected if self.parser.expected() else "; no token can come"
         return f"unexpected {self.entry(0)}{can}"
 
     def piece(self, piece: Piece) -> str:
@@ -90,6 +96,7 @@ class _Reader:
     def __init__(self, text: bytes) -> None:
         self.text, self.at, self.line = text, 0, 1
         self.messages = Messages()
+        self.symbol = 0  # the one after the last that was spelled
 
     def sees(self, word: bytes) -> bool:
         return self.text.startswith(word, self.at)
@@ -134,8 +141,22 @@ class _Reader:
         self.take(b"expected")
         return None
 
+    def take_spelling(self, last: Optional[int]) -> None:
+        """Reads what a symbol is called, which is after the last one, and before all states."""
+        symbol = self.take_number(SYMBOLS - 1)
+        if last is not None or symbol < self.symbol:
+            raise _Refused("this line is out of order")
+        self.take(b" ")
+        self.messages.spelled[symbol] = self.take_text().decode(errors="replace")
+        self.symbol = symbol + 1
+        self.take_newline()
+
     def take_line(self, last: Optional[int]) -> Optional[int]:
         """Reads a line, with the state before it, and says which state is that after it."""
+        if self.sees(b"sp"):
+            self.take(b"spelled ")
+            self.take_spelling(last)
+            return last
         if self.sees(b"s"):
             self.take(b"state ")
             state = self.take_number(STATES - 1)

@@ -2,6 +2,7 @@
 
 use std::str;
 use yfaults::shown::Place;
+use yforeign::lexeme::Span;
 use yimport::symbols::Expected;
 use ylexemes::front::part_at;
 use ylexemes::kind::Kind;
@@ -109,8 +110,8 @@ fn found_at(source: &[u8], at: usize) -> (Found<'_>, usize) {
 }
 
 impl Numbers {
-    /// Takes what a comment expects, which begins on a line.
-    fn take(&mut self, told: Told, line: usize) -> Result<(), Why> {
+    /// Takes what a comment expects, which stands here.
+    fn take(&mut self, told: Told, span: Span) -> Result<(), Why> {
         let Some(number) = told.number else {
             return Err(Why::NoNumber);
         };
@@ -120,9 +121,9 @@ impl Numbers {
             self.shift_reduce
         };
         if let Some(before) = before {
-            return Err(Why::Second(before.line));
+            return Err(Why::Second(before.span.line));
         }
-        let expected = Some(Expected { line, number });
+        let expected = Some(Expected { span, number });
         if told.reduce {
             self.reduce_reduce = expected;
         } else {
@@ -141,7 +142,12 @@ impl Numbers {
             source,
             at,
         };
-        match self.take(told, place.spot().0) {
+        let span = Span {
+            line: place.spot().0,
+            from: at,
+            to: at.saturating_add(text.len()),
+        };
+        match self.take(told, span) {
             Ok(()) => Ok(()),
             Err(why) => Err(Wrong { at, why }),
         }

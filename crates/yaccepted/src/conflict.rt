@@ -1,12 +1,13 @@
 //! A conflict as a list has it: texts, in which no number of a state or a rule stands.
 
 use std::alloc::{AllocError, Global};
+use yexplain::lines::Spot;
 use ysymbols::names::{SymbolTable, intern, is_among, number_in};
 
 /// A conflict between two items on a token.
 pub struct Conflict {
-    /// The line of a file that it comes from: of a list, or of the grammar.
-    pub line: usize,
+    /// The place in a file that it comes from: a line of a list, or a rule of the grammar.
+    pub spot: Spot,
     /// The token's name.
     pub token: Vec<u8>,
     /// The item whose shift or reduction is taken.
@@ -19,7 +20,7 @@ impl Drop for Conflict {
     // A call in each owner, which keeps their proofs short.
     fn drop(self) {
         let Conflict {
-            line: _,
+            spot: _,
             token: _,
             taken: _,
             other: _,
@@ -31,7 +32,7 @@ impl Conflict {
     /// The same again.
     pub fn copy(&self, alloc: Global) -> Result<Conflict, AllocError> {
         Ok(Conflict {
-            line: self.line,
+            spot: self.spot,
             token: Vec::from_slice(alloc, &self.token)?,
             taken: Vec::from_slice(alloc, &self.taken)?,
             other: Vec::from_slice(alloc, &self.other)?,
@@ -91,7 +92,7 @@ impl Conflicts {
     pub fn line_of(&self, alloc: Global, conflict: &Conflict) -> Result<Option<usize>, AllocError> {
         let key = conflict.key(alloc)?;
         let before = self.all.get(number_in(&self.keys, &key));
-        Ok(before.map(|before| before.line))
+        Ok(before.map(|before| before.spot.line))
     }
 
     /// Adds a conflict, unless it is among them, and says whether it was added.

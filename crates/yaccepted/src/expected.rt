@@ -2,6 +2,7 @@
 
 use crate::comments::Numbers;
 use std::io::{self, Write};
+use ybison::notes::Source;
 use yimport::symbols::Expected;
 
 /// Numbers of conflicts: shift/reduce, and reduce/reduce.
@@ -82,8 +83,8 @@ impl Compared {
     }
 
     /// Writes that the number isn't the expected one, where that isn't told.
-    fn put<W: Write>(self, out: &mut W, path: &str) -> io::Result<()> {
-        let counted = self.counted;
+    fn put<W: Write>(self, out: &mut W, source: Source<'_>) -> io::Result<()> {
+        let (path, counted) = (source.path, self.counted);
         let (word, kind) = KINDS.get(self.kind).copied().unwrap_or(("", ""));
         let other = KINDS.iter().rev().nth(self.kind);
         let other_word = other.map_or("", |(word, _)| *word);
@@ -93,14 +94,16 @@ impl Compared {
             ""
         };
         match (self.wanted, self.other) {
-            (Some(Expected { line, number }), _) if !self.is_bison => writeln!(
+            (Some(Expected { span, number }), _) if !self.is_bison => writeln!(
                 out,
-                "{path}:{line}: {word} {number}: {kind} conflicts: {counted}"
+                "{path}:{}: {word} {number}: {kind} conflicts: {counted}",
+                source.spot(span)
             ),
-            (None, Some(Expected { line, number })) => writeln!(
+            (None, Some(Expected { span, number })) => writeln!(
                 out,
-                "{path}:{line}: {other_word} {number} without {word}: {kind} \
-                 conflicts{as_bison}: {counted}"
+                "{path}:{}: {other_word} {number} without {word}: {kind} \
+                 conflicts{as_bison}: {counted}",
+                source.spot(span)
             ),
             _ => Ok(()),
         }
@@ -111,7 +114,7 @@ impl Compared {
 /// they are.
 fn is_told<W: Write>(
     out: &mut W,
-    path: &str,
+    source: Source<'_>,
     numbers: Numbers,
     counts: Counts,
     is_bison: bool,
@@ -130,7 +133,7 @@ fn is_told<W: Write>(
             is_bison,
         };
         if !compared.fits() {
-            compared.put(out, path)?;
+            compared.put(out, source)?;
             fits = false;
         }
     }
@@ -149,13 +152,18 @@ impl Expectation {
 
     /// Writes where expected numbers aren't those that were counted, unless that is told, and says
     /// whether they are.
-    pub fn is_met<W: Write>(self, out: &mut W, path: &str, found: Counts) -> io::Result<bool> {
+    pub fn is_met<W: Write>(
+        self,
+        out: &mut W,
+        source: Source<'_>,
+        found: Counts,
+    ) -> io::Result<bool> {
         match self {
             Expectation::Open => Ok(true),
-            Expectation::Given(given) => is_given(out, path, given, found),
-            Expectation::Comments(numbers) => is_told(out, path, numbers, found, false),
+            Expectation::Given(given) => is_given(out, source.path, given, found),
+            Expectation::Comments(numbers) => is_told(out, source, numbers, found, false),
             Expectation::Directives(numbers, counts) => {
-                is_told(out, path, numbers, counts, true)
+                is_told(out, source, numbers, counts, true)
             }
         }
     }

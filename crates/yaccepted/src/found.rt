@@ -5,7 +5,7 @@ use crate::items::{Dotted, Hosts};
 use indexmap::IndexMap;
 use std::alloc::{AllocError, Global};
 use std::io;
-use yexplain::lines::Lines;
+use yexplain::lines::{Lines, Spot};
 use yexplain::reads::{
     body_of, candidates_of, conflicts_of, grammar_of, items_of, name_of, next_of, shift_of,
 };
@@ -131,7 +131,7 @@ fn conflict_of(
     let grammar = grammar_of(tables);
     let other = (pair.other, body_of(grammar, pair.other).len());
     Ok(Conflict {
-        line: lines.rule(pair.other).unwrap_or(1),
+        spot: lines.spot(pair.other).unwrap_or(Spot::of_line(1)),
         token: Vec::from_slice(alloc, name_of(grammar, pair.token))?,
         taken: hosts.text(alloc, grammar, pair.taken)?,
         other: hosts.text(alloc, grammar, other)?,

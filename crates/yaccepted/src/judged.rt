@@ -148,7 +148,7 @@ fn put_conflicts<W: Write>(
     conflicts: &[Conflict],
 ) -> io::Result<()> {
     for conflict in conflicts.iter().take(MOST_TOLD) {
-        let (line, token) = (conflict.line, Bytes(&conflict.token));
+        let (line, token) = (conflict.spot.line, Bytes(&conflict.token));
         writeln!(out, "{path}:{line}: {front}conflict on {token}")?;
         writeln!(out, "  {}", Bytes(&conflict.taken))?;
         writeln!(out, "  {}", Bytes(&conflict.other))?;
@@ -200,7 +200,8 @@ fn judge_list<F: Files + AllocGlobal, E: Write>(
 fn put_too_many<E: Write>(grammar: &str, errors: &mut E) -> io::Result<u8> {
     writeln!(
         errors,
-        "{grammar}: more than {MOST_FOUND} conflicts, the most that a list of accepted ones can have"
+        "{grammar}: more than {MOST_FOUND} conflicts, the most that a list of accepted ones can \
+         have"
     )?;
     Ok(1)
 }
@@ -242,7 +243,9 @@ fn is_expected<E: Write>(
         shift_reduce: usize::try_from(counts.shift_reduce).unwrap_or(usize::MAX),
         reduce_reduce: usize::try_from(counts.reduce_reduce).unwrap_or(usize::MAX),
     };
-    expected.is_met(errors, asked.grammar, found).map(Some)
+    expected
+        .is_met(errors, counted.source(asked.grammar), found)
+        .map(Some)
 }
 
 /// What is said of the conflicts of a grammar: whether their numbers are the expected ones, and

@@ -3,6 +3,7 @@
 use crate::conflict::{Conflict, Conflicts};
 use std::alloc::{AllocError, Global};
 use std::mem;
+use yexplain::lines::Spot;
 use ysymbols::names::{SymbolTable, intern, number_in};
 
 /// The line with which a list begins.
@@ -201,7 +202,7 @@ impl Reader {
     /// Takes a rule beside what is taken.
     fn take_other(&mut self, number: usize, item: &[u8]) -> Result<(), Trouble> {
         let conflict = Conflict {
-            line: number,
+            spot: Spot::of_line(number),
             token: Vec::from_slice(self.alloc, &self.token)?,
             taken: Vec::from_slice(self.alloc, &self.taken)?,
             other: Vec::from_slice(self.alloc, item)?,

@@ -6,6 +6,7 @@ use crate::refusal::put_wrong_comment;
 use std::io::{self, Write};
 use std::rt::Files;
 use ybison::import::{Foreign, open_foreign};
+use ybison::notes::Source;
 use ybison::opening::open_text;
 use yfaults::opening::{Opened, grammar_bytes, put_unread};
 
@@ -18,6 +19,8 @@ pub struct File<'a> {
     pub bison: bool,
     /// Whether its comments are read. Directives of a file of bison always are.
     pub comments: bool,
+    /// Whether places are told with their columns.
+    pub columns: bool,
 }
 
 /// A grammar file that is open, and what it expects.
@@ -27,8 +30,44 @@ pub struct Counted {
     pub opened: Opened,
     /// The numbers of conflicts that it expects.
     pub expected: Expectation,
-    /// Its bytes; none for a file of bison, which becomes another text.
-    pub source: Option<Vec<u8>>,
+    /// Its bytes.
+    bytes: Vec<u8>,
+    /// Whether places are told with their columns.
+    columns: bool,
+}
+
+impl Counted {
+    /// The file that it is, which has this path.
+    pub fn source<'a>(&'a self, path: &'a str) -> Source<'a> {
+        Source {
+            path,
+            bytes: &self.bytes,
+            columns: self.columns,
+        }
+    }
+}
+
+impl<'a> File<'a> {
+    /// The file of these bytes.
+    fn source(self, bytes: &'a [u8]) -> Source<'a> {
+        let File { path, columns, .. } = self;
+        Source {
+            path,
+            bytes,
+            columns,
+        }
+    }
+
+    /// What is open of the file, with what it expects.
+    fn counted(self, opened: Opened, expected: Expectation, bytes: Vec<u8>) -> Counted {
+        let columns = self.columns;
+        Counted {
+            opened,
+            expected,
+            bytes,
+            columns,
+        }
+    }
 }
 
 /// What the directives of a file of bison expect.
@@ -57,7 +96,7 @@ fn comments_of<E: Write>(
     match Numbers::of(bytes) {
         Ok(numbers) => Ok(Ok(Expectation::Comments(numbers))),
         Err(wrong) => {
-            put_wrong_comment(errors, (file.path, bytes), wrong)?;
+            put_wrong_comment(errors, file.source(bytes), wrong)?;
             Ok(Err(1))
         }
     }
@@ -70,16 +109,12 @@ fn open_plain<F: Files + AllocGlobal, E: Write>(
     bytes: Vec<u8>,
     errors: &mut E,
 ) -> io::Result<Result<Counted, u8>> {
-    let opened = match open_text(rt.alloc(), file.path, &bytes, errors)? {
+    let opened = match open_text(rt.alloc(), file.source(&bytes), errors)? {
         Ok(opened) => opened,
         Err(status) => return Ok(Err(status)),
     };
     match comments_of(file, &bytes, errors)? {
-        Ok(expected) => Ok(Ok(Counted {
-            opened,
-            expected,
-            source: Some(bytes),
-        })),
+        Ok(expected) => Ok(Ok(file.counted(opened, expected, bytes))),
         Err(status) => Ok(Err(status)),
     }
 }
@@ -97,15 +132,11 @@ pub fn open_counted<F: Files + AllocGlobal, E: Write>(
     if !file.bison {
         return open_plain(rt, file, bytes, errors);
     }
-    match open_foreign(rt.alloc(), errors, file.path, &bytes)? {
+    match open_foreign(rt.alloc(), errors, file.source(&bytes))? {
         Ok(foreign) => {
             let expected = directives_of(&foreign);
             let Foreign { opened, .. } = foreign;
-            Ok(Ok(Counted {
-                opened,
-                expected,
-                source: None,
-            }))
+            Ok(Ok(file.counted(opened, expected, bytes)))
         }
         Err(status) => Ok(Err(status)),
     }

@@ -3,6 +3,8 @@
 use crate::comments::{self, Wrong};
 use crate::list::Why;
 use std::io::{self, Write};
+use ybison::notes::Source;
+use yexplain::lines::Spot;
 use yfaults::shown::Place;
 
 impl Why {
@@ -61,24 +63,23 @@ pub fn put_wrong_line<W: Write>(
 }
 
 /// Writes what is wrong with a comment of a grammar file.
-pub fn put_wrong_comment<W: Write>(
-    out: &mut W,
-    (path, source): (&str, &[u8]),
-    wrong: Wrong,
-) -> io::Result<()> {
-    let at = wrong.at;
+pub fn put_wrong_comment<W: Write>(out: &mut W, file: Source<'_>, wrong: Wrong) -> io::Result<()> {
+    let (path, source, at) = (file.path, file.bytes, wrong.at);
     let place = Place { path, source, at };
-    let (line, _) = place.spot();
+    let spot = Spot {
+        line: place.spot().0,
+        column: file.column(at),
+    };
     match wrong.why {
         comments::Why::NoNumber => {
             writeln!(
                 out,
-                "{path}:{line}: this comment expects no number of conflicts"
+                "{path}:{spot}: this comment expects no number of conflicts"
             )?;
         }
         comments::Why::Second(before) => writeln!(
             out,
-            "{path}:{line}: a comment on line {before} expects a number already"
+            "{path}:{spot}: a comment on line {before} expects a number already"
         )?,
     }
     place.put_text(out, true)?;

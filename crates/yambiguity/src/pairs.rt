@@ -85,7 +85,8 @@ impl Pair {
 }
 
 impl Search {
-    /// A search from a stack whose top state has a conflict, by two of its rivals, in so many steps.
+    /// A search from a stack whose top state has a conflict, by two of its rivals, in so many
+    /// steps.
     pub fn new(
         alloc: Global,
         tables: &Tables,

@@ -19,8 +19,8 @@ struct Place {
     state: usize,
 }
 
-/// How a place is come to: how many tokens that takes at least, from which place, and by which item,
-/// whose rule is reduced.
+/// How a place is come to: how many tokens that takes at least, from which place, and by which
+/// item, whose rule is reduced.
 #[derive(Clone, Copy, Drop)]
 struct Way {
     length: u64,

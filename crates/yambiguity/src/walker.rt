@@ -8,8 +8,8 @@ use yexplain::reads::{Made, body_of, left_of};
 use ylalr::END;
 use ysymbols::{Grammar, Sym};
 
-/// What a tree is to be: one of the start symbol, with these tokens, in which the rival stands after
-/// so many of them, with a way before it: the symbols that a parse has on its stack there.
+/// What a tree is to be: one of the start symbol, with these tokens, in which the rival stands
+/// after so many of them, with a way before it: the symbols that a parse has on its stack there.
 #[derive(Drop)]
 pub struct Claim {
     /// The sentence.

@@ -4,8 +4,9 @@ use crate::compared::{Compared, Other};
 use crate::notes::{Source, put_place, put_span};
 use crate::peer::Peer;
 use std::io::{self, Write};
-use yexplain::lines::Lines;
+use yexplain::lines::{Lines, Spot};
 use yexplain::text::{Name, Numbered, RuleText};
+use yforeign::lexeme::Span;
 use yimport::symbols::Ended;
 
 /// A cell of what a file becomes.
@@ -36,17 +37,18 @@ impl<'a> CellText<'a> {
         RuleText(self.peer.grammar(), rule)
     }
 
-    /// Writes the file, and the line of a rule where it has one.
-    fn put_line<W: Write>(self, out: &mut W, rule: usize) -> io::Result<()> {
-        let line = self.lines.rule(rule).unwrap_or(1);
-        put_place(out, self.source.path, line, (b"", ""))
+    /// Writes the file, and the place of a rule where it has one.
+    fn put_rule<W: Write>(self, out: &mut W, rule: usize) -> io::Result<()> {
+        let spot = self.lines.spot(rule).unwrap_or(Spot::of_line(1));
+        let (path, columns) = (self.source.path, self.source.columns);
+        put_place(out, path, spot.told(columns), (b"", ""))
     }
 
     /// Writes the file, and the end that was taken out of a rule.
     fn put_end<W: Write>(self, out: &mut W, rule: usize) -> io::Result<()> {
         match self.peer.end_of(rule).and_then(|end| self.ends.get(end)) {
             Some(end) => put_span(out, self.source, end.span),
-            None => self.put_line(out, rule),
+            None => self.put_rule(out, rule),
         }
     }
 
@@ -63,7 +65,7 @@ impl<'a> CellText<'a> {
     fn put_passed<W: Write>(self, out: &mut W, rule: usize, winner: usize) -> io::Result<()> {
         let (name, state) = (self.name(), self.other.state);
         let (number, text) = (self.numbered(rule), self.text(rule));
-        self.put_line(out, rule)?;
+        self.put_rule(out, rule)?;
         write!(
             out,
             "refused: {name} in state {state}: {} {} wins against the shift, and bison compares no \
@@ -80,9 +82,9 @@ impl<'a> CellText<'a> {
 
     /// Writes that a file is refused for a rule of the token's level, which is one of
     /// `%precedence`.
-    fn put_equal<W: Write>(self, out: &mut W, rule: usize, line: usize) -> io::Result<()> {
-        let (name, state) = (self.name(), self.other.state);
-        put_place(out, self.source.path, line, (b"%precedence", ""))?;
+    fn put_equal<W: Write>(self, out: &mut W, rule: usize, level: Span) -> io::Result<()> {
+        let (name, state, source) = (self.name(), self.other.state, self.source);
+        put_place(out, source.path, source.spot(level), (b"%precedence", ""))?;
         write!(
             out,
             "refused: {name} and the rule {} have one level of it, and meet in state {state}: ",
@@ -127,11 +129,11 @@ impl<'a> CellText<'a> {
             return self.put_ended(out, rule, true);
         }
         let rule = left.passed.or(left.first).unwrap_or(0);
-        match (self.peer.line_of(rule), left.winner) {
-            (Some(line), _) => self.put_equal(out, rule, line),
+        match (self.peer.level_of(rule), left.winner) {
+            (Some(level), _) => self.put_equal(out, rule, level),
             (None, Some(winner)) => self.put_passed(out, rule, winner),
             (None, None) => {
-                self.put_line(out, rule)?;
+                self.put_rule(out, rule)?;
                 let (name, state) = (self.name(), self.other.state);
                 write!(
                     out,
@@ -152,7 +154,7 @@ impl<'a> CellText<'a> {
         let rule = left.second.or(left.first).unwrap_or(0);
         let first = left.first.unwrap_or(rule);
         let (name, state) = (self.name(), self.other.state);
-        self.put_line(out, rule)?;
+        self.put_rule(out, rule)?;
         writeln!(
             out,
             "{} and {} have a reduce/reduce conflict to bison on {name} in state {state}, since it \

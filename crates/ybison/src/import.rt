@@ -3,7 +3,7 @@
 use crate::cell_text::{CellText, put_cells};
 use crate::compared::{Compared, Counts, Other};
 use crate::notes::{Source, Telling, put_expected, put_notes, put_span};
-use crate::opening::open_bytes;
+use crate::opening::{Origin, open_bytes};
 use crate::peer::Peer;
 use std::alloc::Global;
 use std::io::{self, Write};
@@ -64,13 +64,13 @@ fn put_changes<E: Write>(
     found: &Compared,
     text: Option<CellText<'_>>,
 ) -> io::Result<()> {
-    let (path, imported, stay) = (asked.source.path, asked.imported, found.conflicts_stay());
-    put_notes(errors, asked.source, imported, asked.telling, stay)?;
+    let (source, imported, stay) = (asked.source, asked.imported, found.conflicts_stay());
+    put_notes(errors, source, imported, asked.telling, stay)?;
     if let Some(text) = text {
         text.put_conflict(errors)?;
     }
-    put_cells(errors, path, found)?;
-    put_expected(errors, path, imported, found.counts)
+    put_cells(errors, source.path, found)?;
+    put_expected(errors, source, imported, found.counts)
 }
 
 /// Compares the cells of what a file becomes with bison's, says what is to be said of the import,
@@ -110,6 +110,27 @@ fn look_at<E: Write>(
     }
 }
 
+/// Writes why what a file becomes isn't opened, with the column that the place has in the file
+/// itself, where it has one.
+fn put_unopened<E: Write>(
+    alloc: Global,
+    errors: &mut E,
+    asked: Looked<'_>,
+    trouble: &Trouble<'_>,
+) -> io::Result<()> {
+    let (path, imported) = (asked.source.path, asked.imported);
+    if trouble.status() == 1 {
+        writeln!(
+            errors,
+            "{path}: refused: yacc would refuse what it becomes:"
+        )?;
+    }
+    let place = trouble.place();
+    let original = place.and_then(|at| imported.pieces.original_place(at));
+    let column = original.and_then(|at| asked.source.column(at));
+    put_trouble(errors, alloc, (path, &imported.text), trouble, column)
+}
+
 /// Opens what a file becomes as `yacc` does, with its conflicts, where all its cells are the same;
 /// else says why not, and gives the exit status.
 fn open_imported<E: Write>(
@@ -117,17 +138,13 @@ fn open_imported<E: Write>(
     errors: &mut E,
     asked: Looked<'_>,
 ) -> io::Result<Result<(Opened, Counts), u8>> {
-    let path = asked.source.path;
-    let opened = match open_bytes(alloc, &asked.imported.text) {
+    let (bytes, imported) = (asked.source.bytes, asked.imported);
+    let pieces = &imported.pieces;
+    let origin = Some(Origin { bytes, pieces });
+    let opened = match open_bytes(alloc, &imported.text, origin) {
         Ok(opened) => opened,
         Err(trouble) => {
-            if trouble.status() == 1 {
-                writeln!(
-                    errors,
-                    "{path}: refused: yacc would refuse what it becomes:"
-                )?;
-            }
-            put_trouble(errors, alloc, path, &asked.imported.text, &trouble)?;
+            put_unopened(alloc, errors, asked, &trouble)?;
             return Ok(Err(trouble.status()));
         }
     };
@@ -143,10 +160,10 @@ fn imported_from<E: Write>(
     errors: &mut E,
     source: Source<'_>,
 ) -> io::Result<Result<Imported, u8>> {
-    let Source { path, bytes } = source;
+    let Source { path, bytes, .. } = source;
     if bytes.len() > LONGEST_FILE {
         let trouble = Trouble::of_text(alloc, TOO_LONG);
-        put_trouble(errors, alloc, path, bytes, &trouble)?;
+        put_trouble(errors, alloc, (path, bytes), &trouble, None)?;
         return Ok(Err(1));
     }
     match import(alloc, bytes) {
@@ -181,8 +198,11 @@ pub fn run_import<F: Files + AllocGlobal, W: Write, E: Write>(
         Ok(bytes) => bytes,
         Err(error) => return put_unread(errors, path, &error),
     };
-    let bytes = read.as_slice();
-    let source = Source { path, bytes };
+    let source = Source {
+        path,
+        bytes: &read,
+        columns: false,
+    };
     let imported = match imported_from(alloc, errors, source)? {
         Ok(imported) => imported,
         Err(status) => return Ok(status),
@@ -250,10 +270,8 @@ pub fn open_import<E: Write>(
 pub fn open_foreign<E: Write>(
     alloc: Global,
     errors: &mut E,
-    path: &str,
-    bytes: &[u8],
+    source: Source<'_>,
 ) -> io::Result<Result<Foreign, u8>> {
-    let source = Source { path, bytes };
     match imported_from(alloc, errors, source)? {
         Ok(imported) => open_import(alloc, errors, source, imported),
         Err(status) => Ok(Err(status)),

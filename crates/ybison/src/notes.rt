@@ -2,20 +2,45 @@
 
 use crate::compared::Counts;
 use std::io::{self, Write};
+use yexplain::lines::Spot;
+use yfaults::shown::Place;
 use yforeign::lexeme::Span;
 use yimport::import::Imported;
 use yimport::note::{Effect, How};
+use yimport::symbols::Expected;
 
 /// The most bytes of the file that a line shows.
 const MOST_SHOWN: usize = 40;
 
-/// A file that is imported: its path and its bytes.
+/// A grammar file: its path and its bytes, and how its places are told.
 #[derive(Clone, Copy)]
 pub struct Source<'a> {
     /// The path.
     pub path: &'a str,
     /// The bytes.
     pub bytes: &'a [u8],
+    /// Whether places are told with their columns, as programs want them.
+    pub columns: bool,
+}
+
+impl Source<'_> {
+    /// The column of a place, where columns are told.
+    pub fn column(self, at: usize) -> Option<usize> {
+        let Source {
+            path,
+            bytes: source,
+            columns,
+        } = self;
+        Place { path, source, at }.column(columns)
+    }
+
+    /// Where a part begins, as it is told.
+    pub fn spot(self, span: Span) -> Spot {
+        Spot {
+            line: span.line,
+            column: self.column(span.from),
+        }
+    }
 }
 
 /// The bytes of a place as they are shown: those of its first line, and dots for more.
@@ -30,14 +55,14 @@ fn shown(source: &[u8], from: usize, to: usize) -> (&[u8], &'static str) {
     (text.get(..end).unwrap_or(text), dots)
 }
 
-/// Writes the file, the line, and what stands there.
+/// Writes the file, a place of it, and what stands there.
 pub fn put_place<W: Write>(
     out: &mut W,
     path: &str,
-    line: usize,
+    spot: Spot,
     (text, dots): (&[u8], &str),
 ) -> io::Result<()> {
-    write!(out, "{path}:{line}: ")?;
+    write!(out, "{path}:{spot}: ")?;
     if !text.is_empty() {
         out.write_all(text)?;
         write!(out, "{dots}: ")?;
@@ -45,10 +70,10 @@ pub fn put_place<W: Write>(
     Ok(())
 }
 
-/// Writes the file, the line of a part of it, and what stands there.
+/// Writes the file, the place of a part of it, and what stands there.
 pub fn put_span<W: Write>(out: &mut W, source: Source<'_>, span: Span) -> io::Result<()> {
     let text = shown(source.bytes, span.from, span.to);
-    put_place(out, source.path, span.line, text)
+    put_place(out, source.path, source.spot(span), text)
 }
 
 /// Writes how something is changed.
@@ -98,7 +123,7 @@ pub fn put_notes<W: Write>(
 /// Writes where the conflicts that a file expects aren't those that bison would count.
 pub fn put_expected<W: Write>(
     out: &mut W,
-    path: &str,
+    source: Source<'_>,
     imported: &Imported,
     counts: Counts,
 ) -> io::Result<()> {
@@ -107,11 +132,14 @@ pub fn put_expected<W: Write>(
         (shifts, "%expect", "shift/reduce", counts.shift_reduce),
         (reduces, "%expect-rr", "reduce/reduce", counts.reduce_reduce),
     ] {
-        let (line, number) = expected.map_or((0, found), |it| (it.line, it.number));
+        let Some(Expected { span, number }) = expected else {
+            continue;
+        };
         if number != found {
+            let (path, spot) = (source.path, source.spot(span));
             writeln!(
                 out,
-                "{path}:{line}: {word} {number}: {kind} conflicts, as bison counts them: {found}"
+                "{path}:{spot}: {word} {number}: {kind} conflicts, as bison counts them: {found}"
             )?;
         }
     }

@@ -1,12 +1,64 @@
 //! Grammar files opened.
 
+use crate::notes::Source;
 use std::alloc::Global;
 use std::io::{self, Write};
-use yexplain::lines::Lines;
+use yexplain::lines::{Lines, Spot, Spots, spots_of};
+use yexplain::reads::Made;
 use yfaults::opening::{Opened, Trouble, put_trouble};
-use ygrammar::{Grammar, Mapped, read_mapped};
+use ygrammar::{Grammar, Mapped, Mark, read_mapped};
+use yimport::pieces::Pieces;
 use ylalr::build;
 use ytables::resolve;
+
+/// The file of which a text was made: its bytes, and what the text has of it.
+#[derive(Clone, Copy)]
+pub struct Origin<'a> {
+    /// The bytes.
+    pub bytes: &'a [u8],
+    /// What the text has of them.
+    pub pieces: &'a Pieces,
+}
+
+impl Origin<'_> {
+    /// Gives lexemes of the text the columns that they have in the file, where it has them.
+    fn place(self, marks: &[Mark<'_>], spots: &mut [Spot]) {
+        let mut counted = Spots::new(self.bytes);
+        for (spot, mark) in spots.iter_mut().zip(marks) {
+            spot.column = match self.pieces.original_place(mark.placed.at) {
+                Some(at) => Some(counted.reach(at).1),
+                None => None,
+            };
+        }
+    }
+}
+
+/// Where the lexemes of a text stand in the file that a person has: that of which it was made, or
+/// the text itself.
+fn places_of(
+    alloc: Global,
+    source: &[u8],
+    origin: Option<Origin<'_>>,
+    marks: &[Mark<'_>],
+) -> Made<Vec<Spot>> {
+    let mut spots = spots_of(alloc, source, marks)?;
+    if let Some(origin) = origin {
+        origin.place(marks, &mut spots);
+    }
+    Ok(spots)
+}
+
+/// Where the rules and symbols of a text stand, likewise.
+fn lines_of(
+    alloc: Global,
+    source: &[u8],
+    origin: Option<Origin<'_>>,
+    marks: &[Mark<'_>],
+    grammar: &Grammar,
+) -> Made<Lines> {
+    let spots = places_of(alloc, source, origin, marks)?;
+    Lines::new(alloc, marks, &spots, grammar)
+}
 
 /// The tables of a grammar, and where things stand in its file.
 fn tables_over<'a>(alloc: Global, grammar: Grammar, lines: Lines) -> Result<Opened, Trouble<'a>> {
@@ -17,8 +69,13 @@ fn tables_over<'a>(alloc: Global, grammar: Grammar, lines: Lines) -> Result<Open
     }
 }
 
-/// The tables of the grammar that the bytes mean, and where things stand in them.
-pub fn open_bytes(alloc: Global, source: &[u8]) -> Result<Opened, Trouble<'_>> {
+/// The tables of the grammar that the bytes mean, and where things stand in them, or in the file of
+/// which they were made.
+pub fn open_bytes<'a>(
+    alloc: Global,
+    source: &'a [u8],
+    origin: Option<Origin<'a>>,
+) -> Result<Opened, Trouble<'a>> {
     let Mapped {
         grammar,
         marks,
@@ -31,24 +88,24 @@ pub fn open_bytes(alloc: Global, source: &[u8]) -> Result<Opened, Trouble<'_>> {
         Ok(grammar) => grammar,
         Err(placed) => return Err(Trouble::of_fault(placed, marks, barren)),
     };
-    match Lines::new(alloc, source, &marks, &grammar) {
+    match lines_of(alloc, source, origin, &marks, &grammar) {
         Ok(lines) => tables_over(alloc, grammar, lines),
         Err(_) => Err(Trouble::Memory),
     }
 }
 
-/// Opens the grammar file of these bytes. Where it is refused, that is written, and the exit status
-/// is the answer.
+/// Opens a grammar file. Where it is refused, that is written, and the exit status is the answer.
 pub fn open_text<W: Write>(
     alloc: Global,
-    path: &str,
-    source: &[u8],
+    source: Source<'_>,
     errors: &mut W,
 ) -> io::Result<Result<Opened, u8>> {
-    match open_bytes(alloc, source) {
+    let Source { path, bytes, .. } = source;
+    match open_bytes(alloc, bytes, None) {
         Ok(opened) => Ok(Ok(opened)),
         Err(trouble) => {
-            put_trouble(errors, alloc, path, source, &trouble)?;
+            let column = trouble.place().and_then(|at| source.column(at));
+            put_trouble(errors, alloc, (path, bytes), &trouble, column)?;
             Ok(Err(trouble.status()))
         }
     }

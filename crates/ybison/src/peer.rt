@@ -3,6 +3,7 @@
 
 use ycells::Candidate;
 use yexplain::reads::{candidate_of, rule_of, shift_of};
+use yforeign::lexeme::Span;
 use ylalr::END;
 use ysymbols::{Grammar, Sym};
 use ytables::{Class, Tables};
@@ -12,8 +13,8 @@ use ytables::{Class, Tables};
 pub struct Peer<'a> {
     /// The tables, without the ends that bodies of the file have.
     pub tables: &'a Tables,
-    /// The line of `%precedence` for each level that comes from one.
-    pub levels: &'a [Option<usize>],
+    /// Where the `%precedence` stands for each level that comes from one.
+    pub levels: &'a [Option<Span>],
     /// For each rule, which of the ends that were taken out of bodies stood in its own.
     pub ended: &'a [Option<usize>],
 }
@@ -99,8 +100,8 @@ impl<'a> Peer<'a> {
         self.tables.automaton().grammar()
     }
 
-    /// The line of the `%precedence` that a rule has its level from, where it has it from one.
-    pub fn line_of(&self, rule: usize) -> Option<usize> {
+    /// Where the `%precedence` stands that a rule has its level from, where it has it from one.
+    pub fn level_of(&self, rule: usize) -> Option<Span> {
         let precedence = rule_of(self.grammar(), rule)?.precedence()?;
         let place = precedence.level.checked_sub(1)?;
         self.levels.get(place).copied()?
@@ -116,7 +117,7 @@ impl<'a> Peer<'a> {
         let rule = candidate.rule;
         let is_ban = candidate.standing.class() == Class::Ban;
         // bison leaves a rule and the shift beside each other where yacc forbids both
-        let is_equal = is_ban && self.line_of(rule).is_some();
+        let is_equal = is_ban && self.level_of(rule).is_some();
         if token == END && self.end_of(rule).is_some() {
             left.shift = true;
             left.ends = left.ends.saturating_add(1);

@@ -2,8 +2,8 @@
 //! parser in C of a grammar file, a drop-in for `yacc` and `bison` in a build.
 //!
 //! `words` has the command line, `names` the names of the files that are written; `reading` reads
-//! the grammar file, `messages` one of messages for errors, `making` makes the texts and writes them,
-//! and `ending` says how a run ends.
+//! the grammar file, `messages` one of messages for errors, `making` makes the texts and writes
+//! them, and `ending` says how a run ends.
 #![tactic(auto)]
 
 mod ending;

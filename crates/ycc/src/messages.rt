@@ -4,6 +4,7 @@ use crate::ending::{Ending, outside};
 use std::alloc::Global;
 use std::io::{self, Write};
 use yfiles::reading::{LONGEST_INPUT, Limited};
+use ymessages::inputs::Inputs;
 use ymessages::messages::Messages;
 use ymessages::slots::{Slot, slots_of};
 use yskeleton::{Speech, Style};
@@ -62,7 +63,8 @@ fn bytes_in(rt: &HostRuntime, path: &str) -> Result<Vec<u8>, Ending> {
 /// The messages of a file. Where something is wrong with it, that is said.
 fn read_speech(rt: &HostRuntime, path: &str, tables: &Tables) -> Result<Speech, Ending> {
     let bytes = bytes_in(rt, path)?;
-    match Messages::checked(rt.alloc(), tables, path, bytes, &mut rt.stderr())? {
+    let inputs = Inputs::of_tokens(tables);
+    match Messages::checked(rt.alloc(), inputs, (path, false), bytes, &mut rt.stderr())? {
         Ok(messages) => Ok(spoken(rt.alloc(), tables, &messages)?),
         Err(_) => Err(Ending::Refused),
     }

@@ -30,7 +30,7 @@ fn refused(rt: &HostRuntime, file: &File, trouble: &Unopened<'_>) -> Ending {
         return Ending::Memory;
     }
     let (path, bytes) = (file.path.as_str(), file.bytes.as_slice());
-    match put_trouble(&mut rt.stderr(), rt.alloc(), path, bytes, trouble) {
+    match put_trouble(&mut rt.stderr(), rt.alloc(), (path, bytes), trouble, None) {
         Ok(()) => Ending::Refused,
         Err(error) => Ending::from(error),
     }
@@ -122,7 +122,11 @@ fn read_imported<'a>(
     imported: Imported,
 ) -> Result<Reading<'a>, Ending> {
     let (path, bytes) = (file.path.as_str(), file.bytes.as_slice());
-    let source = Source { path, bytes };
+    let source = Source {
+        path,
+        bytes,
+        columns: false,
+    };
     let foreign = match open_import(rt.alloc(), &mut rt.stderr(), source, imported)? {
         Ok(foreign) => foreign,
         Err(3) => return Err(Ending::Outside),

@@ -9,8 +9,8 @@ use ytables::{Action, Tables};
 /// Stands for every token, in a state with a default rule.
 const EVERY: Sym = usize::MAX;
 
-/// A filled cell, which is a line `a` or `d` of a table, unless it reduces at `error`: a state and a
-/// token.
+/// A filled cell, which is a line `a` or `d` of a table, unless it reduces at `error`: a state and
+/// a token.
 #[derive(Clone, Copy, Drop, PartialEq, Eq)]
 pub struct Cell {
     /// The state.

@@ -5,14 +5,12 @@ use std::io::{self, ErrorKind, Read, Write};
 use std::rt::Files;
 use ydiagnostics::checking::{self, bytes_of, run_checking};
 use ydiagnostics::format::{Format, NO_FORM, form_of};
-use yexplain::reads::grammar_of;
+use ydiagnostics::messaged::Messaged;
 use yfiles::reading::Limited;
 use yinput::fault::Fault;
 use yinput::language::{Input, Language, LanguageFiles};
 use yinput::verdict::{Verdict, verdict_on};
 use yinput::verdict_text::{put_choice, put_plain_choice};
-use ymessages::filling::filled;
-use ymessages::messages::Messages;
 
 /// What is asked for: verdicts on inputs.
 #[derive(Clone, Copy)]
@@ -33,45 +31,18 @@ pub struct Asked<'a> {
     pub format: Option<&'a str>,
 }
 
-/// A language, and the messages for its errors, where there are some.
-#[derive(Drop)]
-struct Told {
-    language: Language,
-    messages: Option<Messages>,
-}
-
-impl Told {
-    /// The message about an input of the language that is rejected, where there is one.
-    fn message(
-        &self,
-        alloc: Global,
-        input: &Input,
-        verdict: &Verdict,
-    ) -> io::Result<Option<Vec<u8>>> {
-        let (Some(messages), Verdict::Rejected(rejection)) = (&self.messages, verdict) else {
-            return Ok(None);
-        };
-        let grammar = grammar_of(&self.language.opened.tables);
-        match messages.of(rejection.state()) {
-            Some(message) => filled(alloc, grammar, message, input, rejection).map(Some),
-            None => Ok(None),
-        }
-    }
-
-    /// Writes the verdict on an input for people, and gives its exit status.
-    fn put<W: Write>(
-        &self,
-        alloc: Global,
-        out: &mut W,
-        path: &str,
-        input: &Input,
-        verdict: &Verdict,
-    ) -> io::Result<u8> {
-        let grammar = grammar_of(&self.language.opened.tables);
-        match self.message(alloc, input, verdict)? {
-            Some(message) => verdict.put(out, grammar, path, input, Some(message.as_slice())),
-            None => verdict.put(out, grammar, path, input, None),
-        }
+/// Writes the verdict on an input for people, and gives its exit status.
+fn put_told<W: Write>(
+    alloc: Global,
+    out: &mut W,
+    told: &Messaged,
+    path: &str,
+    (input, verdict): (&Input, &Verdict),
+) -> io::Result<u8> {
+    let spoken = told.language.spoken();
+    match told.message(alloc, input, verdict)? {
+        Some(message) => verdict.put(out, spoken, path, input, Some(message.as_slice())),
+        None => verdict.put(out, spoken, path, input, None),
     }
 }
 
@@ -93,7 +64,7 @@ impl Asked<'_> {
         self,
         alloc: Global,
         out: &mut W,
-        told: &Told,
+        told: &Messaged,
         path: &str,
         input: &Input,
     ) -> io::Result<u8> {
@@ -101,7 +72,7 @@ impl Asked<'_> {
         if self.plain {
             verdict.put_plain(out, path)
         } else {
-            told.put(alloc, out, path, input, &verdict)
+            put_told(alloc, out, told, path, (input, &verdict))
         }
     }
 
@@ -116,7 +87,7 @@ impl Asked<'_> {
         if self.plain {
             fault.put_plain(out)
         } else {
-            fault.put(rt, out, self.files.grammar.path, &language.opened)
+            fault.put(rt, out, self.files.grammar, &language.opened)
         }
     }
 
@@ -126,7 +97,7 @@ impl Asked<'_> {
         rt: &F,
         stdin: &mut R,
         out: &mut W,
-        told: &Told,
+        told: &Messaged,
         path: &str,
     ) -> io::Result<u8> {
         let most = self.most;
@@ -144,7 +115,7 @@ impl Asked<'_> {
         rt: &F,
         stdin: &mut R,
         out: &mut W,
-        told: &Told,
+        told: &Messaged,
     ) -> io::Result<u8> {
         let mut status = 0;
         for path in self.inputs {
@@ -158,32 +129,6 @@ impl Asked<'_> {
             status = ended.max(status);
         }
         Ok(status)
-    }
-}
-
-impl Asked<'_> {
-    /// A language with the messages that are asked for. Where the file of messages is refused, that
-    /// is written, and the exit status is the answer.
-    fn with_messages<F: Files + AllocGlobal, E: Write>(
-        self,
-        rt: &F,
-        language: Language,
-        errors: &mut E,
-    ) -> io::Result<Result<Told, u8>> {
-        let Some(path) = self.messages else {
-            return Ok(Ok(Told {
-                language,
-                messages: None,
-            }));
-        };
-        let most = self.most;
-        match Messages::open(rt, &language.opened.tables, Limited { path, most }, errors)? {
-            Ok(messages) => Ok(Ok(Told {
-                language,
-                messages: Some(messages),
-            })),
-            Err(status) => Ok(Err(status)),
-        }
     }
 }
 
@@ -205,11 +150,9 @@ fn put_text<F: Files + AllocGlobal, R: Read, W: Write, E: Write>(
     out: &mut W,
     errors: &mut E,
 ) -> io::Result<u8> {
-    let language = match Language::open(rt, asked.files, errors)? {
-        Ok(language) => language,
-        Err(status) => return Ok(status),
-    };
-    match asked.with_messages(rt, language, errors)? {
+    let most = asked.most;
+    let messages = asked.messages.map(|path| Limited { path, most });
+    match Messaged::open(rt, asked.files, messages, errors)? {
         Ok(told) => {
             asked.put_choice(out, &told.language)?;
             asked.put_all(rt, stdin, out, &told)
@@ -237,7 +180,7 @@ pub fn run_check<F: Files + AllocGlobal, R: Read, W: Write, E: Write>(
         Some(Format::Text) | None => put_text(rt, asked, stdin, out, errors),
         Some(format) => {
             let asked = checking::Asked {
-                files: asked.files,
+                files: asked.files.with_columns(),
                 inputs: asked.inputs,
                 messages: asked.messages,
                 most: asked.most,

@@ -184,16 +184,18 @@ pub fn run_conflicts<F: Files + AllocGlobal + Clone + Drop, W: Write, E: Write>(
     if let Some(status) = refused(rt, asked, errors)? {
         return Ok(status);
     }
-    let GrammarFile { path, bison } = asked.grammar;
+    let GrammarFile { path, bison, .. } = asked.grammar;
     let comments = asked.strict && asked.expect.is_none();
+    let format = form_of(asked.format).unwrap_or(Format::Text);
     let file = File {
         path,
         bison,
         comments,
+        columns: format != Format::Text,
     };
-    match form_of(asked.format) {
-        Some(Format::Text) | None => put_text(rt, asked, file, out, errors),
-        Some(format) => {
+    match format {
+        Format::Text => put_text(rt, asked, file, out, errors),
+        Format::Gcc | Format::Json => {
             let asked = machine::Asked {
                 file,
                 accepted: accepted_by(asked),

@@ -8,7 +8,6 @@ use ycover::report::put_report;
 use ycover::walk::{Walked, Walker};
 use ydiagnostics::checking::bytes_of;
 use yexplain::lines::Lines;
-use yexplain::reads::grammar_of;
 use yfaults::opening::Opened;
 use yfiles::reading::Limited;
 use yinput::language::{Input, Language, LanguageFiles};
@@ -48,7 +47,7 @@ impl Asked<'_> {
         match verdict_on(alloc, tables, &input.tokens)? {
             Verdict::Accepted(_) => Ok(()),
             verdict => verdict
-                .put(out, grammar_of(tables), path, input, None)
+                .put(out, language.spoken(), path, input, None)
                 .map(|_| ()),
         }
     }
@@ -70,7 +69,7 @@ impl Asked<'_> {
                 Ok(Ok(input))
             }
             Err(fault) => fault
-                .put(rt, out, self.files.grammar.path, &language.opened)
+                .put(rt, out, self.files.grammar, &language.opened)
                 .map(Err),
         }
     }

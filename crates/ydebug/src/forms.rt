@@ -12,9 +12,12 @@ pub const FORMS: &str = "Other forms:\n\
     \x20     [--accept FILE [--update]] [--format FORM]\n\
     \x20 ydebug check grammar tokens.. [--lex SPEC] [--messages FILE] [--choice] [--plain]\n\
     \x20     [--format FORM]\n\
-    \x20 ydebug errors grammar [--messages FILE [--complete] [--update | --table OUT]]\n\
-    \x20 ydebug sentences grammar [--cover KIND] [--near] [--save FOLDER] [--strict]\n\
-    \x20 ydebug sentences grammar --random N [--length L] [--seed S] [--near] [--save FOLDER]\n\
+    \x20 ydebug errors grammar [--lex SPEC]\n\
+    \x20     [--messages FILE [--complete] [--update | --table OUT]]\n\
+    \x20 ydebug sentences grammar [--lex SPEC] [--cover KIND] [--near] [--save FOLDER]\n\
+    \x20     [--strict]\n\
+    \x20 ydebug sentences grammar --random N [--length L] [--seed S] [--lex SPEC] [--near]\n\
+    \x20     [--save FOLDER] [--strict]\n\
     \x20 ydebug cover grammar tokens.. [--lex SPEC] [--strict]\n\
     \x20 ydebug page grammar tokens [--lex SPEC] [-o FILE] [--from K] [--to K] [--conflicts]\n\
     \x20 ydebug tokens grammar --lex SPEC input\n\
@@ -132,6 +135,7 @@ const CHECK: &[&str] = &[
 
 const ERRORS: &[&str] = &[
     GRAMMAR,
+    "--lex SPEC: Inputs are texts, whose tokens look as this file says",
     MESSAGES,
     "--complete: Wants a message for each state in which an error is detected",
     "--update: Writes the file anew: its comments, and the states that are new",
@@ -142,6 +146,7 @@ const ERRORS: &[&str] = &[
 
 const SENTENCES: &[&str] = &[
     GRAMMAR,
+    "--lex SPEC: Writes texts, whose tokens look as this file says",
     "--cover KIND: What they use: rules, states or actions; without it, rules",
     "--random N: Draws so many sentences at random instead",
     "--length L: The most tokens of each that is drawn; without it, 20",

@@ -54,8 +54,8 @@ pub fn is_given(matches: &ArgMatches<'_>, name: &str) -> bool {
 pub fn grammar_in<'a>(matches: &ArgMatches<'a>) -> Result<GrammarFile<'a>, Refused> {
     let path = value_of(matches, "grammar")?;
     match matches.get_str("from") {
-        None => Ok(GrammarFile { path, bison: false }),
-        Some("bison") => Ok(GrammarFile { path, bison: true }),
+        None => Ok(GrammarFile::new(path, false)),
+        Some("bison") => Ok(GrammarFile::new(path, true)),
         Some(_) => Err(Refused::Arguments),
     }
 }

@@ -2,14 +2,15 @@
 //! the conflicts of a grammar, `ydebug check grammar tokens..` says what its sentences are, `ydebug
 //! errors grammar` lists its errors, and `ydebug page grammar tokens` makes a page of a parse.
 //! `ydebug sentences grammar` writes sentences that use all of a grammar, and `ydebug cover grammar
-//! tokens..` says what inputs use of it. `ydebug import file` makes a grammar file that `yacc` reads out of one for bison. With `--lex
-//! SPEC` a text stands in place of a tokens file; `ydebug tokens` writes the tokens of one, and
-//! `ydebug lex-spec` sketches a SPEC. `ydebug rules grammar` names the rules of a grammar for
-//! programs that read its table, and `ydebug table` writes that as `yacc` does.
+//! tokens..` says what inputs use of it. `ydebug import file` makes a grammar file that `yacc`
+//! reads out of one for bison. With `--lex SPEC` a text stands in place of a tokens file; `ydebug
+//! tokens` writes the tokens of one, and `ydebug lex-spec` sketches a SPEC. `ydebug rules grammar`
+//! names the rules of a grammar for programs that read its table, and `ydebug table` writes that
+//! as `yacc` does.
 //!
-//! `forms` has the arguments of the forms, `given` reads what they say, and `near` has what could be
-//! meant by others. `check`, `conflicts`, `cover`, `tokens`, `sketch` and `table` are forms; the
-//! others have a crate each. What the forms are given is opened by `yinput`.
+//! `forms` has the arguments of the forms, `given` reads what they say, and `near` has what could
+//! be meant by others. `check`, `conflicts`, `cover`, `tokens`, `sketch` and `table` are forms;
+//! the others have a crate each. What the forms are given is opened by `yinput`.
 #![tactic(auto)]
 
 mod check;
@@ -150,7 +151,7 @@ fn list_errors<W: Write>(
     out: &mut W,
 ) -> Result<u8, Refused> {
     let asked = Errors {
-        grammar: grammar_in(matches)?,
+        files: language_in(matches)?,
         messages: messages_in(matches)?,
         complete: is_given(matches, "complete"),
         update: is_given(matches, "update"),
@@ -170,7 +171,7 @@ fn write_sentences<W: Write>(
     out: &mut W,
 ) -> Result<u8, Refused> {
     let asked = Sentences {
-        grammar: grammar_in(matches)?,
+        files: language_in(matches)?,
         kind: kind_in(matches)?,
         drawn: drawn_in(matches)?,
         near: is_given(matches, "near"),
@@ -202,7 +203,7 @@ fn cover_files<W: Write>(
 fn page<W: Write>(rt: &HostRuntime, matches: &ArgMatches<'_>, out: &mut W) -> Result<u8, Refused> {
     let (bison, from) = page_from(matches.get_strs("from").unwrap_or(&[]))?;
     let path = value_of(matches, "grammar")?;
-    let grammar = GrammarFile { path, bison };
+    let grammar = GrammarFile::new(path, bison);
     let spec = matches.get_str("lex");
     let source = Source {
         rt,

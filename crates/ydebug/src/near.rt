@@ -36,8 +36,8 @@ fn put_near_option<W: Write>(alloc: Global, out: &mut W, form: Form, word: &str)
     }
 }
 
-/// Asks whether a command was meant by the first argument of a session, where that is no file, and no
-/// path either.
+/// Asks whether a command was meant by the first argument of a session, where that is no file, and
+/// no path either.
 pub fn put_near_form<F: Files + AllocGlobal, W: Write>(
     rt: &F,
     out: &mut W,

@@ -45,7 +45,7 @@ pub fn run_table<F: Files + AllocGlobal, E: Write>(
         Ok(counts) => put_conflicts(errors, counts).map(|()| 0),
         // What is wrong is found once more; where nothing is, memory ran out.
         Err(GenerateFault::Source(_)) => {
-            match open_file(rt, GrammarFile { path, bison: false }, errors)? {
+            match open_file(rt, GrammarFile::new(path, false), errors)? {
                 Ok(_) => Err(io::Error::from(ErrorKind::OutOfMemory)),
                 Err(status) => Ok(status),
             }

@@ -63,6 +63,6 @@ pub fn run_tokens<F: Files + AllocGlobal, W: Write, E: Write>(
             }
             Ok(0)
         }
-        Err(fault) => fault.put(rt, errors, files.grammar.path, opened),
+        Err(fault) => fault.put(rt, errors, files.grammar, opened),
     }
 }

@@ -4,17 +4,14 @@ use crate::diagnostic::{Diagnostic, Severity};
 use crate::document::Said;
 use crate::format::Format;
 use crate::inputs::{InputSheet, Judged, answer_of, refused};
-use crate::places::place_fault;
+use crate::messaged::Messaged;
 use crate::told::{About, add_all, checked};
 use std::alloc::{AllocError, Global};
 use std::io::{self, Read, Write};
 use std::rt::Files;
-use yexplain::reads::grammar_of;
 use yfiles::reading::{Limited, all_bytes};
-use yinput::language::{Input, Language, LanguageFiles};
-use yinput::verdict::{Verdict, verdict_on};
-use ymessages::filling::filled;
-use ymessages::messages::Messages;
+use yinput::language::{Input, LanguageFiles};
+use yinput::verdict::verdict_on;
 
 /// What is asked for: verdicts on inputs.
 #[derive(Clone, Copy)]
@@ -42,13 +39,6 @@ pub fn bytes_of<F: Files + AllocGlobal, R: Read>(
         "-" => all_bytes(rt.alloc(), input, file.most),
         _ => file.bytes(rt),
     }
-}
-
-/// A language with the messages for its errors.
-#[derive(Drop)]
-struct Told {
-    language: Language,
-    messages: Option<Messages>,
 }
 
 /// What was said of inputs so far.
@@ -82,32 +72,15 @@ fn copy_of(alloc: Global, bytes: &io::Result<Option<Vec<u8>>>) -> Result<Vec<u8>
     }
 }
 
-impl Told {
-    /// The message about an input of the language that is rejected, where there is one.
-    fn message(
-        &self,
-        alloc: Global,
-        input: &Input,
-        verdict: &Verdict,
-    ) -> io::Result<Option<Vec<u8>>> {
-        let (Some(messages), Verdict::Rejected(rejection)) = (&self.messages, verdict) else {
-            return Ok(None);
-        };
-        let grammar = grammar_of(&self.language.opened.tables);
-        match messages.of(rejection.state()) {
-            Some(message) => filled(alloc, grammar, message, input, rejection).map(Some),
-            None => Ok(None),
-        }
-    }
-
+impl Messaged {
     /// What is said of an input of these bytes.
     fn answer(&self, alloc: Global, source: (&str, &[u8]), input: &Input) -> io::Result<Judged> {
         let tables = &self.language.opened.tables;
         let verdict = verdict_on(alloc, tables, &input.tokens)?;
         let message = self.message(alloc, input, &verdict)?;
         let told = message.as_ref().map(Vec::as_slice);
-        let grammar = grammar_of(tables);
-        answer_of(alloc, grammar, source, (input, &verdict), told)
+        let spoken = self.language.spoken();
+        answer_of(alloc, spoken, source, (input, &verdict), told)
     }
 }
 
@@ -117,7 +90,7 @@ impl Asked<'_> {
         self,
         rt: &F,
         stdin: &mut R,
-        told: &Told,
+        told: &Messaged,
         path: &str,
     ) -> io::Result<Judged> {
         let (alloc, most) = (rt.alloc(), self.most);
@@ -129,7 +102,7 @@ impl Asked<'_> {
             Err(fault) => {
                 let mut text = Vec::new(alloc);
                 let opened = &told.language.opened;
-                let status = fault.put(rt, &mut text, self.files.grammar.path, opened)?;
+                let status = fault.put(rt, &mut text, self.files.grammar, opened)?;
                 refused(alloc, path, &text, status)
             }
         }
@@ -140,7 +113,7 @@ impl Asked<'_> {
         self,
         rt: &F,
         stdin: &mut R,
-        told: &Told,
+        told: &Messaged,
         sheets: &mut Sheets,
     ) -> io::Result<()> {
         for path in self.inputs {
@@ -165,38 +138,16 @@ impl Asked<'_> {
         about.take(alloc, text)
     }
 
-    /// Opens the file of messages, where there is one. Where it is refused, that is written, and
-    /// the exit status is the answer.
-    fn with_messages<F: Files + AllocGlobal, E: Write>(
-        self,
-        rt: &F,
-        language: Language,
-        errors: &mut E,
-    ) -> io::Result<Result<Told, u8>> {
-        let Some(path) = self.messages else {
-            let messages = None;
-            return Ok(Ok(Told { language, messages }));
-        };
-        let most = self.most;
-        match Messages::open(rt, &language.opened.tables, Limited { path, most }, errors)? {
-            Ok(messages) => {
-                let messages = Some(messages);
-                Ok(Ok(Told { language, messages }))
-            }
-            Err(status) => Ok(Err(status)),
-        }
-    }
-
-    /// Opens the language and its messages likewise.
+    /// Opens the language and its messages. Where one is refused, that is written, and the exit
+    /// status is the answer.
     fn open<F: Files + AllocGlobal, E: Write>(
         self,
         rt: &F,
         errors: &mut E,
-    ) -> io::Result<Result<Told, u8>> {
-        match Language::open(rt, self.files, errors)? {
-            Ok(language) => self.with_messages(rt, language, errors),
-            Err(status) => Ok(Err(status)),
-        }
+    ) -> io::Result<Result<Messaged, u8>> {
+        let most = self.most;
+        let messages = self.messages.map(|path| Limited { path, most });
+        Messaged::open(rt, self.files, messages, errors)
     }
 }
 
@@ -225,7 +176,7 @@ fn put_inputs<F: Files + AllocGlobal, R: Read, W: Write>(
     rt: &F,
     asked: Asked<'_>,
     stdin: &mut R,
-    told: &Told,
+    told: &Messaged,
     notes: &[u8],
     out: &mut W,
 ) -> io::Result<u8> {
@@ -257,10 +208,7 @@ pub fn run_checking<F: Files + AllocGlobal, R: Read, W: Write>(
         Ok(told) => put_inputs(rt, asked, stdin, &told, &notes, out),
         Err(status) => {
             checked(&notes)?;
-            let mut diagnostics = asked.told(rt.alloc(), &notes, Severity::Error)?;
-            if !asked.files.grammar.bison {
-                place_fault(rt, asked.files.grammar.path, &mut diagnostics);
-            }
+            let diagnostics = asked.told(rt.alloc(), &notes, Severity::Error)?;
             let said = (diagnostics.as_slice(), None);
             put_said(rt.alloc(), asked, said, status, out)
         }

@@ -3,6 +3,7 @@
 use serde::Serialize;
 use std::alloc::{AllocError, Global};
 use std::io::{self, Write};
+use yexplain::lines::Spot;
 
 /// How bad something is.
 #[derive(Clone, Copy, Drop, PartialEq, Eq)]
@@ -24,16 +25,6 @@ impl Severity {
             Severity::Note => "note",
         }
     }
-}
-
-/// A place of a file: its line, and its column where that is known, both counted from 1. Columns
-/// are bytes.
-#[derive(Clone, Copy, Default, Drop)]
-pub struct Spot {
-    /// The line; none for the whole file.
-    pub line: Option<usize>,
-    /// The column.
-    pub column: Option<usize>,
 }
 
 /// What is said of a place.
@@ -68,11 +59,11 @@ impl Drop for Diagnostic {
 }
 
 impl Diagnostic {
-    /// What is said of a place, without notes.
+    /// What is said of a place, or of the whole file, without notes.
     pub fn new(
         alloc: Global,
         file: Option<&str>,
-        spot: Spot,
+        spot: Option<Spot>,
         severity: Severity,
         message: String,
     ) -> Result<Diagnostic, AllocError> {
@@ -82,8 +73,8 @@ impl Diagnostic {
         };
         Ok(Diagnostic {
             file,
-            line: spot.line,
-            column: spot.column,
+            line: spot.map(|spot| spot.line),
+            column: spot.and_then(|spot| spot.column),
             severity: severity.word(),
             message,
             notes: Vec::new(alloc),

@@ -6,11 +6,12 @@ use crate::told::About;
 use serde::Serialize;
 use std::alloc::{AllocError, Global};
 use std::io;
-use yexplain::lines::Spots;
+use yfaults::opening::word_place;
+use yfaults::shown::Place;
 use yinput::language::Input;
+use yinput::spelled::Spoken;
 use yinput::verdict::{Rejection, Verdict};
 use ysymbols::Grammar;
-use ytokens::token_words::{Front, front_of};
 
 /// What comes of an input.
 #[derive(Serialize)]
@@ -109,23 +110,10 @@ impl InputSheet {
     }
 }
 
-/// How many bytes of a tokens file stand before a word, counted from 1; before the end for a number
-/// of no word.
-fn word_start(source: &[u8], number: usize) -> usize {
-    let mut rest = source;
-    for _ in 1..number {
-        match front_of(rest) {
-            Front::Word(_, after) | Front::Literal(_, after) => rest = after,
-            Front::Nothing | Front::Broken => return source.len(),
-        }
-    }
-    let rest = rest.trim_ascii_start();
-    source.len().saturating_sub(rest.len())
-}
-
 /// Gives a diagnostic the place of a token in its tokens file.
-fn place(diagnostics: &mut [Diagnostic], source: &[u8], number: usize) {
-    let (line, column) = Spots::new(source).reach(word_start(source, number));
+fn give_place(diagnostics: &mut [Diagnostic], (path, source): (&str, &[u8]), number: usize) {
+    let at = word_place(source, number).unwrap_or(source.len());
+    let (line, column) = Place { path, source, at }.spot();
     if let Some(first) = diagnostics.first_mut() {
         first.line = Some(line);
         first.column = Some(column);
@@ -135,13 +123,13 @@ fn place(diagnostics: &mut [Diagnostic], source: &[u8], number: usize) {
 /// What is said of an input of these bytes, with a message for its error, where there is one.
 pub fn answer_of(
     alloc: Global,
-    grammar: &Grammar,
+    spoken: Spoken<'_>,
     (path, source): (&str, &[u8]),
     (input, verdict): (&Input, &Verdict),
     message: Option<&[u8]>,
 ) -> io::Result<Judged> {
     let mut told = Vec::new(alloc);
-    let status = verdict.put(&mut told, grammar, path, input, message)?;
+    let status = verdict.put(&mut told, spoken, path, input, message)?;
     let about = About {
         paths: &[path],
         severity: Severity::Error,
@@ -151,10 +139,10 @@ pub fn answer_of(
         diagnostics = about.take(alloc, &told)?;
     }
     if let (Verdict::Rejected(rejection), None) = (verdict, &input.text) {
-        place(&mut diagnostics, source, rejection.number);
+        give_place(&mut diagnostics, (path, source), rejection.number);
     }
     Ok(Judged {
-        sheet: InputSheet::of(alloc, grammar, path, verdict)?,
+        sheet: InputSheet::of(alloc, spoken.grammar, path, verdict)?,
         diagnostics,
         status,
     })

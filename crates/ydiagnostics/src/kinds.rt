@@ -1,6 +1,6 @@
 //! Conflicts, each kind with its rules and with lists of tokens that get there.
 
-use crate::diagnostic::{Diagnostic, Severity, Spot};
+use crate::diagnostic::{Diagnostic, Severity};
 use serde::Serialize;
 use std::alloc::{AllocError, Global};
 use std::io::{self, Write};
@@ -97,13 +97,11 @@ impl Drop for KindSheet {
     }
 }
 
-/// What rules are shown with: where they stand in the file, and their columns.
+/// What rules are shown with: where they stand in the file.
 #[derive(Clone, Copy)]
 pub struct Shown<'a> {
-    /// The lines.
+    /// The places.
     pub lines: &'a Lines,
-    /// The columns, by number.
-    pub columns: &'a [Option<usize>],
     /// The path of the file.
     pub path: &'a str,
     /// How bad a conflict is.
@@ -164,14 +162,6 @@ fn list_sheets(
 }
 
 impl Shown<'_> {
-    /// The place of a rule.
-    fn spot(self, rule: usize) -> Spot {
-        Spot {
-            line: self.lines.rule(rule),
-            column: self.columns.get(rule).copied().flatten(),
-        }
-    }
-
     /// A rule.
     fn rule_sheet(
         self,
@@ -179,11 +169,11 @@ impl Shown<'_> {
         grammar: &Grammar,
         rule: usize,
     ) -> Result<RuleSheet, AllocError> {
-        let (spot, text) = (self.spot(rule), RuleText(grammar, rule));
+        let (spot, text) = (self.lines.spot(rule), RuleText(grammar, rule));
         Ok(RuleSheet {
             rule,
-            line: spot.line,
-            column: spot.column,
+            line: spot.map(|spot| spot.line),
+            column: spot.and_then(|spot| spot.column),
             text: format!(in alloc; "{text}")?,
         })
     }
@@ -294,7 +284,7 @@ impl Shown<'_> {
         cells: (&Kind, Group),
     ) -> io::Result<Diagnostic> {
         let rule = cells.0.others().first().copied().unwrap_or(0);
-        let (spot, path) = (self.spot(rule), Some(self.path));
+        let (spot, path) = (self.lines.spot(rule), Some(self.path));
         let message = message_of(alloc, grammar, cells)?;
         Ok(Diagnostic::new(alloc, path, spot, self.severity, message)?)
     }

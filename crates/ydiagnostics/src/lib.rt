@@ -2,8 +2,8 @@
 //! compiler writes them, or one document in JSON.
 //!
 //! `format` has the forms, `diagnostic` what is said of a place, and `told` makes that of lines for
-//! people. `places` has the columns of rules and faults, `kinds` the conflicts, `inputs` the
-//! verdicts, and `document` writes all of it. `report` and `checking` are the runs.
+//! people. `kinds` has the conflicts, `inputs` the verdicts, `messaged` the messages for them, and
+//! `document` writes all of it. `report` and `checking` are the runs.
 #![tactic(auto)]
 
 pub mod checking;
@@ -12,6 +12,6 @@ mod document;
 pub mod format;
 mod inputs;
 mod kinds;
-mod places;
+pub mod messaged;
 pub mod report;
 mod told;

@@ -1,10 +1,9 @@
 //! `ydebug conflicts` for programs.
 
-use crate::diagnostic::{Diagnostic, Severity, Spot};
+use crate::diagnostic::{Diagnostic, Severity};
 use crate::document::{ConflictSheet, Said};
 use crate::format::Format;
 use crate::kinds::Shown;
-use crate::places::{columns_of, place_fault};
 use crate::told::{About, add_all, checked};
 use std::alloc::{AllocError, Global};
 use std::io::{self, Write};
@@ -83,10 +82,7 @@ fn listed_diagnostic(
     (front, severity): (&str, Severity),
     conflict: &Conflict,
 ) -> Result<Diagnostic, AllocError> {
-    let spot = Spot {
-        line: Some(conflict.line),
-        column: None,
-    };
+    let spot = Some(conflict.spot);
     let token = Bytes(&conflict.token);
     let message = format!(in alloc; "{front}conflict on {token}")?;
     let mut diagnostic = Diagnostic::new(alloc, Some(path), spot, severity, message)?;
@@ -142,11 +138,7 @@ fn add_warnings(
 ) -> Result<bool, AllocError> {
     let warnings = warnings_of(alloc, &opened.tables, &opened.lines)?;
     for warning in &warnings {
-        let spot = Spot {
-            line: warning.line,
-            column: None,
-        };
-        let (path, message) = (Some(asked.file.path), warning.text.clone()?);
+        let (path, spot, message) = (Some(asked.file.path), warning.spot, warning.text.clone()?);
         all.push(Diagnostic::new(alloc, path, spot, asked.severity(), message)?)?;
     }
     Ok(!warnings.is_empty())
@@ -176,7 +168,6 @@ fn sheet_in(
     alloc: Global,
     asked: Asked<'_>,
     opened: Opened,
-    columns: &[Option<usize>],
     found: &Conflicts,
     accepted: Option<bool>,
 ) -> io::Result<Option<ConflictSheet>> {
@@ -187,7 +178,6 @@ fn sheet_in(
     let mut session = empty_session(alloc, tables);
     let shown = Shown {
         lines: &lines,
-        columns,
         path: asked.file.path,
         severity: Severity::Note,
     };
@@ -215,12 +205,10 @@ fn add_found(
     all: &mut Vec<Diagnostic>,
     (asked, severity): (Asked<'_>, Severity),
     opened: &Opened,
-    columns: &[Option<usize>],
     found: &Conflicts,
 ) -> io::Result<bool> {
     let shown = Shown {
         lines: &opened.lines,
-        columns,
         path: asked.file.path,
         severity,
     };
@@ -234,7 +222,7 @@ fn add_found(
 fn put_judged<W: Write>(
     alloc: Global,
     asked: Asked<'_>,
-    (opened, columns): (Opened, &[Option<usize>]),
+    opened: Opened,
     judged: &Judged,
     diagnostics: Vec<Diagnostic>,
     out: &mut W,
@@ -245,30 +233,12 @@ fn put_judged<W: Write>(
     }
     let found = Conflicts::new(alloc, &opened.tables)?;
     let (accepted, severity) = (judged.is_accepted(), asked.conflict_severity(judged));
-    let is_warned = add_found(
-        alloc,
-        &mut diagnostics,
-        (asked, severity),
-        &opened,
-        columns,
-        &found,
-    )?;
+    let is_warned = add_found(alloc, &mut diagnostics, (asked, severity), &opened, &found)?;
     let status = status_of(asked.strict, accepted, found.cells > 0, is_warned);
-    let sheet = sheet_in(alloc, asked, opened, columns, &found, accepted)?;
+    let sheet = sheet_in(alloc, asked, opened, &found, accepted)?;
     let mut all = said(asked, status, &diagnostics);
     all.conflicts = sheet.as_ref();
     all.put(alloc, out, asked.format)
-}
-
-/// The columns of the rules of a grammar; none where they aren't those of its file.
-fn columns_in(alloc: Global, counted: &Counted) -> io::Result<Vec<Option<usize>>> {
-    match &counted.source {
-        Some(source) => {
-            let grammar = grammar_of(&counted.opened.tables);
-            columns_of(alloc, source, grammar)
-        }
-        None => Ok(Vec::new(alloc)),
-    }
 }
 
 /// What is said of a grammar's files beside its conflicts: notes on an import, and numbers of
@@ -304,9 +274,8 @@ fn put_counted<F: Files + AllocGlobal, W: Write>(
     match judged {
         Ok(judged) => {
             let told = told_of(alloc, asked, &judged, (notes, &numbers))?;
-            let columns = columns_in(alloc, &counted)?;
             let Counted { opened, .. } = counted;
-            put_judged(alloc, asked, (opened, &columns), &judged, told, out)
+            put_judged(alloc, asked, opened, &judged, told, out)
         }
         Err(status) => {
             let mut told = asked.told(alloc, notes, Severity::Warning)?;
@@ -329,10 +298,7 @@ pub fn run_report<F: Files + AllocGlobal, W: Write>(
         Ok(counted) => put_counted(rt, asked, counted, &told, out),
         Err(status) => {
             checked(&told)?;
-            let mut diagnostics = asked.told(rt.alloc(), &told, Severity::Error)?;
-            if !asked.file.bison {
-                place_fault(rt, asked.file.path, &mut diagnostics);
-            }
+            let diagnostics = asked.told(rt.alloc(), &told, Severity::Error)?;
             said(asked, status, &diagnostics).put(rt.alloc(), out, asked.format)
         }
     }

@@ -3,10 +3,11 @@
 //! Such a line begins with the path of its file, and with its line and column where it has them.
 //! Those after it that begin with two spaces help; with four they show the text of the place.
 
-use crate::diagnostic::{Diagnostic, Severity, Spot};
+use crate::diagnostic::{Diagnostic, Severity};
 use std::alloc::{AllocError, Global};
 use std::io::{self, ErrorKind};
 use std::str;
+use yexplain::lines::Spot;
 use yexplain::text::Escaped;
 
 /// What lines are about: the files that they may name, and how bad what they say is.
@@ -30,17 +31,16 @@ fn number_at(text: &[u8]) -> Option<(usize, &[u8])> {
 }
 
 /// The place in front of a text, where it has one, and what follows it.
-fn spot_at(text: &[u8]) -> (Spot, &[u8]) {
+fn spot_at(text: &[u8]) -> (Option<Spot>, &[u8]) {
     let Some((line, text)) = number_at(text) else {
-        return (Spot::default(), text);
+        return (None, text);
     };
-    let line = Some(line);
     match number_at(text) {
         Some((column, text)) => {
             let column = Some(column);
-            (Spot { line, column }, text)
+            (Some(Spot { line, column }), text)
         }
-        None => (Spot { line, column: None }, text),
+        None => (Some(Spot::of_line(line)), text),
     }
 }
 
@@ -79,7 +79,7 @@ impl<'a> About<'a> {
         match line.strip_prefix(b"ydebug: ") {
             Some(rest) => {
                 let message = text_of(alloc, rest)?;
-                Diagnostic::new(alloc, None, Spot::default(), severity, message).map(Some)
+                Diagnostic::new(alloc, None, None, severity, message).map(Some)
             }
             None => Ok(None),
         }
@@ -102,10 +102,7 @@ impl<'a> About<'a> {
         let text = text_of(alloc, line.trim_ascii_start())?;
         match found.last_mut() {
             Some(diagnostic) => diagnostic.notes.push(text)?,
-            None => {
-                let spot = Spot::default();
-                found.push(Diagnostic::new(alloc, None, spot, self.severity, text)?)?;
-            }
+            None => found.push(Diagnostic::new(alloc, None, None, self.severity, text)?)?,
         }
         Ok(())
     }

@@ -4,12 +4,12 @@ use crate::confirm::{Confirmed, Left, confirm};
 use crate::detected::Detected;
 use crate::lists::MOST_TOKENS;
 pub use crate::rows::MOST_STEPS;
-use crate::search::Search;
+use crate::search::{Search, can_stand};
 use crate::ways::Ways;
 use std::alloc::{AllocError, Global};
 use std::io;
 use yexplain::reads::{action_of, default_of, grammar_of};
-use ylalr::{ERROR, token_count};
+use ylalr::token_count;
 use yparse::Session;
 use ysymbols::Sym;
 use ytables::{Action, Tables};
@@ -79,18 +79,20 @@ enum Sought {
     Without(Reason),
 }
 
-/// Whether a state has an error at some token of an input.
-fn has_error(tables: &Tables, state: usize) -> bool {
+/// Whether a state has an error at some token of an input, which has none that is marked.
+fn has_error(tables: &Tables, absent: &[bool], state: usize) -> bool {
     let mut tokens = 0..token_count(grammar_of(tables));
-    tokens.any(|token| token != ERROR && action_of(tables, state, token) == Action::Error)
+    tokens.any(|token| {
+        can_stand(absent, token) && action_of(tables, state, token) == Action::Error
+    })
 }
 
 /// Why a search has nothing for a state.
-fn reason_of(search: &Search<'_>, state: usize, is_done: bool) -> Reason {
+fn reason_of(search: &Search<'_>, absent: &[bool], state: usize, is_done: bool) -> Reason {
     let tables = search.ways.tables;
     if default_of(tables, state).is_some() {
         Reason::Reduces
-    } else if !has_error(tables, state) {
+    } else if !has_error(tables, absent, state) {
         Reason::TakesAll
     } else if !is_done {
         Reason::Late
@@ -117,15 +119,16 @@ fn list_of(
     }
 }
 
-/// What a search has for each state, the last one first.
-fn seek(alloc: Global, tables: &Tables) -> Result<Vec<Sought>, AllocError> {
-    let mut search = Search::new(alloc, Ways::new(alloc, tables)?)?;
+/// What a search has for each state, the last one first, by inputs without the tokens that are
+/// marked.
+fn seek(alloc: Global, tables: &Tables, absent: &[bool]) -> Result<Vec<Sought>, AllocError> {
+    let mut search = Search::new(alloc, Ways::new(alloc, tables)?, absent)?;
     let is_done = search.run()?;
     let mut found = Vec::new(alloc);
     for state in (0..tables.automaton().states()).rev() {
         let sought = match search.detected(state) {
             Some(detected) => list_of(alloc, &search, state, detected)?,
-            None => Sought::Without(reason_of(&search, state, is_done)),
+            None => Sought::Without(reason_of(&search, absent, state, is_done)),
         };
         found.push(sought)?;
     }
@@ -150,12 +153,12 @@ fn outcome_of(
 }
 
 impl Errors {
-    /// The errors of all states of a session's tables. The session is at its start, without
-    /// tokens, and is left there.
-    pub fn new(alloc: Global, session: &mut Session) -> io::Result<Errors> {
+    /// The errors of all states of a session's tables, by inputs without the tokens that are
+    /// marked. The session is at its start, without tokens, and is left there.
+    pub fn new(alloc: Global, session: &mut Session, absent: &[bool]) -> io::Result<Errors> {
         let mut outcomes = Vec::new(alloc);
         let mut left = Left::all();
-        let mut found = seek(alloc, session.tables())?;
+        let mut found = seek(alloc, session.tables(), absent)?;
         for state in 0..found.len() {
             if let Some(sought) = found.pop() {
                 let outcome = outcome_of(alloc, session, state, sought, &mut left)?;

@@ -331,8 +331,8 @@ impl Rows {
         }
     }
 
-    /// Tokens wait to come into a row after so many others, which these parts are, but for those that
-    /// it has, and those that wait already.
+    /// Tokens wait to come into a row after so many others, which these parts are, but for those
+    /// that it has, and those that wait already.
     pub fn put(
         &mut self,
         key: Key,

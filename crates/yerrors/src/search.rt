@@ -15,6 +15,8 @@ use ysymbols::Sym;
 pub struct Search<'a> {
     /// The tables.
     pub ways: Ways<'a>,
+    /// The tokens that no input has.
+    absent: &'a [bool],
     /// What is found.
     pub rows: Rows,
     /// For each state, and each rule that it reduces, the set of the tokens at which it does.
@@ -31,6 +33,7 @@ impl Drop for Search<'_> {
     fn drop(self) {
         let Search {
             ways: _,
+            absent: _,
             rows: _,
             masks,
             inputs: _,
@@ -39,6 +42,11 @@ impl Drop for Search<'_> {
         } = self;
         drop(masks);
     }
+}
+
+/// Whether an input can have a token, where it can't have those that are marked.
+pub fn can_stand(absent: &[bool], token: Sym) -> bool {
+    token != ERROR && absent.get(token) != Some(&true)
 }
 
 /// The row of a state.
@@ -50,14 +58,19 @@ pub fn state_key(state: usize) -> Key {
 }
 
 impl<'a> Search<'a> {
-    /// A search in tables, which is still to be run.
-    pub fn new(alloc: Global, ways: Ways<'a>) -> Result<Search<'a>, AllocError> {
+    /// A search in tables for inputs without the tokens that are marked, which is still to be run.
+    pub fn new(
+        alloc: Global,
+        ways: Ways<'a>,
+        absent: &'a [bool],
+    ) -> Result<Search<'a>, AllocError> {
         let tokens = token_count(ways.grammar());
         let states = ways.automaton().states();
         let mut rows = Rows::new(alloc, tokens);
         let inputs = rows.make_set()?;
         Ok(Search {
             ways,
+            absent,
             rows,
             masks: IndexMap::new(alloc),
             inputs,
@@ -91,7 +104,7 @@ impl<'a> Search<'a> {
         for token in 0..token_count(self.ways.grammar()) {
             let alone = self.rows.make_set()?;
             self.alone.push(alone)?;
-            if token != ERROR {
+            if can_stand(self.absent, token) {
                 let inputs = self.inputs;
                 self.rows.sets.add(alone, token);
                 self.rows.sets.add(inputs, token);
@@ -106,7 +119,7 @@ impl<'a> Search<'a> {
         let tokens = token_count(self.ways.grammar());
         self.rows.spend(tokens);
         for token in 0..tokens {
-            if self.ways.reduces(state, rule, token) {
+            if can_stand(self.absent, token) && self.ways.reduces(state, rule, token) {
                 self.rows.sets.add(mask, token);
             }
         }

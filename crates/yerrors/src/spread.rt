@@ -2,9 +2,9 @@
 //!
 //! A row of a rest is known from those of the rest after its next symbol: where that is a token, it
 //! has to be ahead, and is shifted; where it is a nonterminal, the rows of its goto say which token
-//! is ahead once it has come. The rows of a goto are those of the bodies of its nonterminal. The rows
-//! of states go from the first state over tokens and gotos. All of them are found together, the
-//! fewest tokens first, so each is found with as few tokens as there can be.
+//! is ahead once it has come. The rows of a goto are those of the bodies of its nonterminal. The
+//! rows of states go from the first state over tokens and gotos. All of them are found together,
+//! the fewest tokens first, so each is found with as few tokens as there can be.
 
 use crate::detected::Detected;
 use crate::rows::{Key, Level, Part, Spot, Taken};

@@ -1,10 +1,11 @@
-//! How to choose otherwise than a cell with a shift does. Each hint is tried on the cell first, with
-//! the precedences that it asks for.
+//! How to choose otherwise than a cell with a shift does. Each hint is tried on the cell first,
+//! with the precedences that it asks for.
 
+use crate::advice::Advice;
 use crate::lines::is_inner;
 use crate::reads::level_of;
-use crate::rivals::{Kinds, Rivals, around};
-use crate::supposed::{BOTTOM, TOP, place_of};
+use crate::rivals::{Kinds, Rivals};
+use crate::supposed::{BOTTOM, TOP};
 use std::io::{self, Write};
 use ycells::Candidate;
 use ylalr::END;
@@ -97,37 +98,43 @@ impl Rivals<'_> {
         }
     }
 
-    /// Writes how to give precedences to a rule and the token.
-    pub fn put_advice<W: Write>(&self, out: &mut W, candidate: Candidate) -> io::Result<()> {
-        let rule = candidate.rule;
-        if self.token() == END {
-            return writeln!(
+    /// Writes what settles a conflict with a rule.
+    pub fn put_advice<W: Write>(&self, out: &mut W, rule: usize, advice: Advice) -> io::Result<()> {
+        match advice {
+            Advice::End => writeln!(
                 out,
                 "  The end takes no precedence: change the grammar to choose."
-            );
-        }
-        match self.lines().giver(self.grammar(), rule) {
-            Some(token) if token == self.token() => self.put_both(out, rule),
-            Some(token) => match candidate.standing {
-                Standing::NoToken => self.put_token_line(out, rule, token),
-                Standing::NoRule => self.put_rule_line(out, rule, token),
-                _ => self.put_lines(out, rule, token),
-            },
-            None if is_inner(self.grammar(), rule) => writeln!(
+            ),
+            Advice::Inner => writeln!(
                 out,
                 "  The rule of an action inside a body takes no precedence: change the grammar to \
                  choose."
             ),
-            None => self.put_own(out, rule),
+            Advice::General => self.put_general(out),
+            Advice::Both { reduces, shifts } => self.put_both(out, rule, (reduces, shifts)),
+            Advice::Token {
+                other,
+                shifts,
+                reduces,
+            } => self.put_token_line(out, (rule, other), (shifts, reduces)),
+            Advice::Rule(giver) => self.put_rule_line(out, rule, giver),
+            Advice::Lines {
+                giver,
+                shifts,
+                reduces,
+            } => self.put_lines(out, (rule, giver), (shifts, reduces)),
+            Advice::Own => self.put_own(out, rule),
         }
     }
 
     /// Writes how a line for the token that gives the rule its precedence too chooses.
-    fn put_both<W: Write>(&self, out: &mut W, rule: usize) -> io::Result<()> {
+    fn put_both<W: Write>(
+        &self,
+        out: &mut W,
+        rule: usize,
+        (reduces, shifts): (bool, bool),
+    ) -> io::Result<()> {
         let name = self.name();
-        let all = (0, usize::MAX);
-        let reduces = self.is_done_between(all, Associativity::Left, Action::Reduce(rule));
-        let shifts = self.is_done_between(all, Associativity::Right, self.shift);
         match (reduces, shifts) {
             (true, true) => writeln!(
                 out,
@@ -137,16 +144,17 @@ impl Rivals<'_> {
                 out,
                 "  To reduce by rule {rule}, name {name} in a line of %left."
             ),
-            (false, true) => writeln!(out, "  To shift {name}, name it in a line of %right."),
-            (false, false) => self.put_general(out),
+            _ => writeln!(out, "  To shift {name}, name it in a line of %right."),
         }
     }
 
     /// Writes how a line for the token chooses, where the rule has one of another token.
-    fn put_token_line<W: Write>(&self, out: &mut W, rule: usize, other: Sym) -> io::Result<()> {
-        let at = self.place(rule).unwrap_or(TOP);
-        let shifts = self.kinds_between((at, usize::MAX), self.shift);
-        let reduces = self.kinds_between((0, at), Action::Reduce(rule));
+    fn put_token_line<W: Write>(
+        &self,
+        out: &mut W,
+        (rule, other): (usize, Sym),
+        (shifts, reduces): (Kinds, Kinds),
+    ) -> io::Result<()> {
         let both = shifts.and(reduces);
         let (name, other) = (self.name(), self.named(other));
         if both.any() {
@@ -162,26 +170,15 @@ impl Rivals<'_> {
                 "  To shift {name}, name it on a line of {shifts} later than {other}."
             );
         }
-        if reduces.any() {
-            return writeln!(
-                out,
-                "  To reduce by rule {rule}, name {name} on a line of {reduces} earlier than \
-                 {other}."
-            );
-        }
-        self.put_general(out)
+        writeln!(
+            out,
+            "  To reduce by rule {rule}, name {name} on a line of {reduces} earlier than {other}."
+        )
     }
 
     /// Writes how a line for the token that would give the rule its precedence chooses, where the
     /// token of the cell has one.
     fn put_rule_line<W: Write>(&self, out: &mut W, rule: usize, giver: Sym) -> io::Result<()> {
-        let level = level_of(self.grammar(), self.token()).map_or(0, |it| it.level);
-        let (above, below) = around(place_of(level));
-        let shifts = self.is_done(self.with_giver(giver, above), self.shift);
-        let reduces = self.is_done(self.with_giver(giver, below), Action::Reduce(rule));
-        if !shifts || !reduces {
-            return self.put_general(out);
-        }
         let (name, giver) = (self.name(), self.named(giver));
         writeln!(
             out,
@@ -197,9 +194,6 @@ impl Rivals<'_> {
             Some(_) => "the line of",
             None => "%nonassoc",
         };
-        if !self.chooses_by(rule, Associativity::Nonassoc) {
-            return self.put_general(out);
-        }
         writeln!(
             out,
             "  To choose, write %nonassoc LOW above {line} {name}, and %prec LOW at the end of \
@@ -208,9 +202,12 @@ impl Rivals<'_> {
     }
 
     /// Writes how the lines of two tokens choose.
-    fn put_lines<W: Write>(&self, out: &mut W, rule: usize, token: Sym) -> io::Result<()> {
-        let shifts = self.kinds_by((self.token(), token), self.shift);
-        let reduces = self.kinds_by((token, self.token()), Action::Reduce(rule));
+    fn put_lines<W: Write>(
+        &self,
+        out: &mut W,
+        (rule, token): (usize, Sym),
+        (shifts, reduces): (Kinds, Kinds),
+    ) -> io::Result<()> {
         let both = shifts.and(reduces);
         let (name, token) = (self.name(), self.named(token));
         if both.any() {
@@ -234,9 +231,6 @@ impl Rivals<'_> {
                 "  To reduce by rule {rule}, name {name} and {token} on two lines of {reduces}, \
                  {token} on the later one."
             )?;
-        }
-        if !shifts.any() && !reduces.any() {
-            return self.put_general(out);
         }
         Ok(())
     }

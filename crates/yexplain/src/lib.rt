@@ -2,11 +2,12 @@
 //! their file, what a cell could say, and why it says what it says.
 #![tactic(auto)]
 
+pub mod advice;
 mod hints;
 pub mod lines;
 mod question;
 pub mod reads;
-mod rivals;
+pub mod rivals;
 pub mod sources;
 pub mod supposed;
 pub mod text;

@@ -1,35 +1,70 @@
-//! Where things stand in a grammar file: the line on which each rule begins, and every line on
-//! which a symbol is named.
+//! Where things stand in a grammar file: where each rule begins, and every place at which a symbol
+//! is named.
 
 use crate::reads::{Made, body_of, left_of, name_of};
 use std::alloc::Global;
+use std::fmt;
 use ylexemes::part::Lexeme;
 use ysourcemap::{Mark, Role};
 use ysymbols::{Grammar, Sym};
 
-/// A symbol that a line names.
+/// A place of a file: its line, and its column where that is known or wanted, both counted from 1.
+/// Columns are bytes.
+#[derive(Clone, Copy, Drop, PartialEq, Eq)]
+pub struct Spot {
+    /// The line.
+    pub line: usize,
+    /// The column.
+    pub column: Option<usize>,
+}
+
+impl Spot {
+    /// A whole line.
+    pub fn of_line(line: usize) -> Spot {
+        Spot { line, column: None }
+    }
+
+    /// The same, without its column unless columns are wanted.
+    pub fn told(self, columns: bool) -> Spot {
+        let Spot { line, column } = self;
+        let column = if columns { column } else { None };
+        Spot { line, column }
+    }
+}
+
+impl fmt::Display for Spot {
+    fn fmt<W: fmt::Write>(&self, f: &mut fmt::Formatter<W>) -> fmt::Result {
+        let line = self.line;
+        match self.column {
+            Some(column) => write!(f, "{line}:{column}"),
+            None => write!(f, "{line}"),
+        }
+    }
+}
+
+/// A symbol that a file names.
 #[derive(Clone, Copy, Drop, PartialEq, Eq)]
 pub struct Mention {
     /// The symbol.
     pub symbol: Sym,
-    /// The line, counted from 1.
-    pub line: usize,
+    /// Where its name stands.
+    pub spot: Spot,
     /// What the name is there for.
     pub role: Role,
 }
 
-/// A rule: the line on which it begins, and what its `%prec` names.
+/// A rule: where it begins, and what its `%prec` names.
 #[derive(Clone, Copy, Drop)]
 struct Begun {
-    line: usize,
+    spot: Spot,
     prec: Option<Sym>,
 }
 
-/// An action: the rule of the file that it stands in, and its line.
+/// An action: the rule of the file that it stands in, and where it begins.
 #[derive(Clone, Copy, Drop)]
 struct Acted {
     rule: usize,
-    line: usize,
+    spot: Spot,
 }
 
 /// Where the rules and symbols of a grammar stand in its file.
@@ -87,6 +122,18 @@ impl<'a> Spots<'a> {
     }
 }
 
+/// Where the lexemes of a file of these bytes stand.
+pub fn spots_of(alloc: Global, source: &[u8], marks: &[Mark<'_>]) -> Made<Vec<Spot>> {
+    let mut found = Vec::with_capacity(alloc, marks.len())?;
+    let mut spots = Spots::new(source);
+    for mark in marks {
+        let (line, column) = spots.reach(mark.placed.at);
+        let column = Some(column);
+        found.push(Spot { line, column })?;
+    }
+    Ok(found)
+}
+
 /// What stands in a file, in its order.
 #[derive(Drop)]
 struct Places {
@@ -128,23 +175,23 @@ impl Places {
     }
 
     /// Notes that a symbol is named.
-    fn mention(&mut self, symbol: Sym, line: usize, role: Role) -> Made<()> {
+    fn mention(&mut self, symbol: Sym, spot: Spot, role: Role) -> Made<()> {
         if let (Role::PrecName(_), Some(rule)) = (role, self.rules.last_mut()) {
             rule.prec = Some(symbol);
         }
-        self.mentions.push(Mention { symbol, line, role })?;
+        self.mentions.push(Mention { symbol, spot, role })?;
         Ok(())
     }
 
-    /// Takes a lexeme on a line in.
-    fn take(&mut self, grammar: &Grammar, mark: Mark<'_>, line: usize) -> Made<()> {
+    /// Takes a lexeme at a place in.
+    fn take(&mut self, grammar: &Grammar, mark: Mark<'_>, spot: Spot) -> Made<()> {
         let Mark { placed, role } = mark;
         if let (true, Some(symbol)) = (names_symbol(role), symbol_of(grammar, placed.lexeme)) {
-            self.mention(symbol, line, role)?;
+            self.mention(symbol, spot, role)?;
         }
         match role {
-            Role::Left(_) | Role::Bar(_) => self.rules.push(Begun { line, prec: None })?,
-            Role::Action(rule) => self.actions.push(Acted { rule, line })?,
+            Role::Left(_) | Role::Bar(_) => self.rules.push(Begun { spot, prec: None })?,
+            Role::Action(rule) => self.actions.push(Acted { rule, spot })?,
             _ => {}
         }
         Ok(())
@@ -159,10 +206,10 @@ impl Places {
         found.push(None)?;
         for number in 1..grammar.rules() {
             if is_inner(grammar, number) {
-                let line = actions
+                let spot = actions
                     .find(|action| action.rule == rule)
-                    .map(|action| action.line);
-                found.push(line.map(|line| Begun { line, prec: None }))?;
+                    .map(|action| action.spot);
+                found.push(spot.map(|spot| Begun { spot, prec: None }))?;
             } else {
                 found.push(self.rules.get(rule).copied())?;
                 rule = rule.saturating_add(1);
@@ -186,29 +233,38 @@ pub fn last_token(grammar: &Grammar, body: &[Sym]) -> Option<Sym> {
 }
 
 /// What stands in a file.
-fn places_of(alloc: Global, source: &[u8], marks: &[Mark<'_>], grammar: &Grammar) -> Made<Places> {
+fn places_of(alloc: Global, marks: &[Mark<'_>], spots: &[Spot], grammar: &Grammar) -> Made<Places> {
     let mut places = Places::new(alloc);
-    let mut spots = Spots::new(source);
-    for mark in marks {
-        places.take(grammar, *mark, spots.reach(mark.placed.at).0)?;
+    for (mark, spot) in marks.iter().zip(spots) {
+        places.take(grammar, *mark, *spot)?;
     }
     Ok(places)
 }
 
 impl Lines {
     /// Where the rules and symbols of a grammar stand in the file that it was read from, by its
-    /// source map. It fails only when memory runs out.
-    pub fn new(alloc: Global, source: &[u8], marks: &[Mark<'_>], grammar: &Grammar) -> Made<Lines> {
-        let places = places_of(alloc, source, marks, grammar)?;
+    /// source map and the places of the lexemes there. It fails only when memory runs out.
+    pub fn new(
+        alloc: Global,
+        marks: &[Mark<'_>],
+        spots: &[Spot],
+        grammar: &Grammar,
+    ) -> Made<Lines> {
+        let places = places_of(alloc, marks, spots, grammar)?;
         let rules = places.by_number(alloc, grammar)?;
         let Places { mentions, .. } = places;
         Ok(Lines { rules, mentions })
     }
 
-    /// The line on which a rule begins, counted from 1: that of its name or its bar, or of its
-    /// action where it is the rule of an inner one. `None` for rule 0 and for a number of no rule.
+    /// Where a rule begins: at its name or its bar, or at its action where it is the rule of an
+    /// inner one. `None` for rule 0 and for a number of no rule.
+    pub fn spot(&self, number: usize) -> Option<Spot> {
+        Some(self.rules.get(number).copied().flatten()?.spot)
+    }
+
+    /// The line on which a rule begins, likewise.
     pub fn rule(&self, number: usize) -> Option<usize> {
-        Some(self.rules.get(number).copied().flatten()?.line)
+        Some(self.spot(number)?.line)
     }
 
     /// The symbol that the `%prec` of a rule names, where it has one.

@@ -1,5 +1,6 @@
 //! Why a cell says what it says: its candidates, what settled it, and how to choose otherwise.
 
+use crate::advice::advice_on;
 pub use crate::question::Question;
 use crate::reads::{action_of, conflict_of, default_of, next_of};
 use crate::rivals::Rivals;
@@ -205,9 +206,10 @@ impl<'a> Question<'a> {
             out,
             "  So yacc {deed}: a conflict, counted once for each such rule."
         )?;
-        let kept = |candidate: &Candidate| candidate.standing.class() != Class::Lose;
-        match self.candidates().find(kept) {
-            Some(candidate) => Rivals::new(self).put_advice(out, candidate),
+        match advice_on(self) {
+            Some((candidate, advice)) => {
+                Rivals::new(self).put_advice(out, candidate.rule, advice)
+            }
             None => Ok(()),
         }
     }

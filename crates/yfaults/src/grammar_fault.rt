@@ -91,6 +91,16 @@ pub struct Refusal<'a> {
 }
 
 impl Refusal<'_> {
+    /// How many bytes stand before what is wrong; `None` where it is the whole file. A grammar
+    /// above a limit has that place at the rule that is too long, where one is.
+    pub fn place(&self) -> Option<usize> {
+        match self.placed.fault {
+            GrammarFault::TooLong | GrammarFault::Memory => None,
+            GrammarFault::Limit { .. } => long_rule(&self.marks),
+            _ => Some(self.placed.at),
+        }
+    }
+
     /// The nonterminals of which no list of tokens can be made.
     fn barren_names(&self, alloc: Global) -> Made<SymbolTable> {
         let mut names = SymbolTable::new(alloc);
@@ -136,32 +146,26 @@ fn put_help<W: Write>(
     }
 }
 
-/// Writes a fault of a grammar file of these bytes: the line, what is wrong there, its text with a
-/// caret under its place but at the end of the file, how to mend it, and what else helps. A grammar
-/// above a limit has that place at the rule that is too long, where one is. Where memory runs out
-/// while what helps is sought, the error says so.
+/// Writes a fault of a grammar file of these bytes: the line, with this column where there is one,
+/// what is wrong there, its text with a caret under its place but at the end of the file, how to
+/// mend it, and what else helps. Where memory runs out while what helps is sought, the error says
+/// so.
 pub fn put_grammar_fault<W: Write>(
     out: &mut W,
     alloc: Global,
-    path: &str,
-    source: &[u8],
+    (path, source): (&str, &[u8]),
     refusal: &Refusal<'_>,
+    column: Option<usize>,
 ) -> io::Result<()> {
-    let (fault, at) = (refusal.placed.fault, refusal.placed.at);
+    let fault = refusal.placed.fault;
     let Some(words) = words_of(grammar_code(fault)) else {
         return Ok(());
     };
-    match fault {
-        GrammarFault::TooLong | GrammarFault::Memory => put_whole(out, path, words),
-        GrammarFault::Limit { .. } => match long_rule(&refusal.marks) {
-            Some(at) => Place { path, source, at }.put(out, words, true),
-            None => put_whole(out, path, words),
-        },
-        _ => {
-            let is_end = matches!(fault, GrammarFault::Syntax { .. }) && at >= source.len();
-            let words = if is_end { AT_END } else { words };
-            Place { path, source, at }.put(out, words, !is_end)?;
-            put_help(out, alloc, source, refusal)
-        }
-    }
+    let Some(at) = refusal.place() else {
+        return put_whole(out, path, words);
+    };
+    let is_end = matches!(fault, GrammarFault::Syntax { .. }) && at >= source.len();
+    let words = if is_end { AT_END } else { words };
+    Place { path, source, at }.put(out, column, words, !is_end)?;
+    put_help(out, alloc, source, refusal)
 }

@@ -1,4 +1,5 @@
-//! The nearest of some names to another name, for a slip in spelling: of symbols, commands, options.
+//! The nearest of some names to another name, for a slip in spelling: of symbols, commands,
+//! options.
 
 use std::alloc::{AllocError, Global};
 use std::str;
@@ -36,8 +37,8 @@ fn edits_between(alloc: Global, wanted: &[u8], name: &[u8]) -> Result<usize, All
 }
 
 impl<'a> Search<'a> {
-    /// A search for a name at most one edit away for each three bytes of the wanted name, or for two
-    /// bytes.
+    /// A search for a name at most one edit away for each three bytes of the wanted name, or for
+    /// two bytes.
     pub fn new(wanted: &'a [u8]) -> Search<'a> {
         let most = (wanted.len() / 3).max(usize::from(wanted.len() > 1));
         Search {

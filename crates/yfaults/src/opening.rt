@@ -55,6 +55,14 @@ impl<'a> Trouble<'a> {
         Trouble::of_fault(placed, Vec::new(alloc), Vec::new(alloc))
     }
 
+    /// How many bytes stand before what is wrong with the file, where that is at a place.
+    pub fn place(&self) -> Option<usize> {
+        match self {
+            Trouble::Grammar(refusal) => refusal.place(),
+            Trouble::Memory | Trouble::TooManySets => None,
+        }
+    }
+
     /// The exit status of a run that ends with it: 1 for a fault of the file; 3 where memory runs
     /// out, or there are too many states.
     pub fn status(&self) -> u8 {
@@ -88,26 +96,27 @@ pub fn put_unread<W: Write>(out: &mut W, path: &str, error: &io::Error) -> io::R
     Ok(3)
 }
 
-/// Writes why the grammar file of these bytes isn't opened.
+/// Writes why the grammar file of these bytes isn't opened, with this column of its place, where
+/// there is one.
 pub fn put_trouble<W: Write>(
     out: &mut W,
     alloc: Global,
-    path: &str,
-    source: &[u8],
+    file: (&str, &[u8]),
     trouble: &Trouble<'_>,
+    column: Option<usize>,
 ) -> io::Result<()> {
     match trouble {
         Trouble::Memory => writeln!(out, "ydebug: no memory"),
-        Trouble::Grammar(refusal) => put_grammar_fault(out, alloc, path, source, refusal),
+        Trouble::Grammar(refusal) => put_grammar_fault(out, alloc, file, refusal, column),
         Trouble::TooManySets => match words_of("B1") {
-            Some(words) => put_whole(out, path, words),
+            Some(words) => put_whole(out, file.0, words),
             None => Ok(()),
         },
     }
 }
 
-/// The place of a word of a tokens file, counted from 1.
-fn word_place(source: &[u8], number: usize) -> Option<usize> {
+/// The place of a word of a tokens file, counted from 1; that of the end for the next number.
+pub fn word_place(source: &[u8], number: usize) -> Option<usize> {
     let mut rest = source;
     for _ in 1..number {
         match front_of(rest) {
@@ -120,19 +129,22 @@ fn word_place(source: &[u8], number: usize) -> Option<usize> {
     Some(before.saturating_add(blanks))
 }
 
-/// Writes a fault of a tokens file of these bytes.
+/// Writes a fault of a tokens file of these bytes, with its column where columns are wanted.
 pub fn put_token_fault<W: Write>(
     out: &mut W,
-    path: &str,
-    source: &[u8],
+    (path, source): (&str, &[u8]),
     fault: TokenFault,
+    columns: bool,
 ) -> io::Result<()> {
     let (code, number) = token_code(fault);
     let Some(words) = words_of(code) else {
         return Ok(());
     };
     match number.and_then(|number| word_place(source, number)) {
-        Some(at) => Place { path, source, at }.put(out, words, true),
+        Some(at) => {
+            let place = Place { path, source, at };
+            place.put(out, place.column(columns), words, true)
+        }
         None => put_whole(out, path, words),
     }
 }
@@ -159,15 +171,15 @@ pub fn put_near_token<W: Write>(
     }
 }
 
-/// Writes a fault of tokens that are a part of another file, which begins at a place, and asks
-/// whether another token was meant.
+/// Writes a fault of tokens that are a part of another file, which begins at a place, with its
+/// column where columns are wanted, and asks whether another token was meant.
 pub fn put_part_fault<W: Write>(
     out: &mut W,
     alloc: Global,
     grammar: &Grammar,
-    place: Place<'_>,
-    part: &[u8],
+    (place, part): (Place<'_>, &[u8]),
     fault: TokenFault,
+    columns: bool,
 ) -> io::Result<()> {
     let (code, number) = token_code(fault);
     let Some(words) = words_of(code) else {
@@ -175,6 +187,7 @@ pub fn put_part_fault<W: Write>(
     };
     let before = number.and_then(|number| word_place(part, number));
     let at = place.at.saturating_add(before.unwrap_or(0));
-    Place { at, ..place }.put(out, words, true)?;
+    let place = Place { at, ..place };
+    place.put(out, place.column(columns), words, true)?;
     put_near_token(out, alloc, grammar, part, fault)
 }

@@ -4,7 +4,7 @@ use crate::words::Words;
 use std::io::{self, Write};
 use std::{fmt, str};
 use unicode_width::UnicodeWidthChar;
-use yexplain::lines::Spots;
+use yexplain::lines::{Spot, Spots};
 
 /// The most bytes of a line that are shown before a place, and after it.
 const MOST_SHOWN: usize = 100;
@@ -117,11 +117,23 @@ impl<'a> Place<'a> {
         Ok(())
     }
 
-    /// Writes what is wrong at the place, its line with a caret where the place is known, and how
-    /// to mend it.
-    pub fn put<W: Write>(self, out: &mut W, words: Words, caret: bool) -> io::Result<()> {
+    /// The column of the place, where it is wanted.
+    pub fn column(self, is_wanted: bool) -> Option<usize> {
+        if is_wanted { Some(self.spot().1) } else { None }
+    }
+
+    /// Writes what is wrong at the place, with this column where there is one, its line with a
+    /// caret where the place is known, and how to mend it.
+    pub fn put<W: Write>(
+        self,
+        out: &mut W,
+        column: Option<usize>,
+        words: Words,
+        caret: bool,
+    ) -> io::Result<()> {
         let (path, line, Words { code, what, .. }) = (self.path, self.spot().0, words);
-        writeln!(out, "{path}:{line}: {code}: {what}")?;
+        let spot = Spot { line, column };
+        writeln!(out, "{path}:{spot}: {code}: {what}")?;
         self.put_text(out, caret)?;
         put_mend(out, words)
     }

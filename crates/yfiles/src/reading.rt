@@ -52,8 +52,8 @@ impl Limited<'_> {
         Ok(within(bytes, self.most))
     }
 
-    /// Writes that the file has more bytes than may be taken, and how many it has, where that can be
-    /// told, as it can't of a pipe or a device.
+    /// Writes that the file has more bytes than may be taken, and how many it has, where that can
+    /// be told, as it can't of a pipe or a device.
     pub fn put_long<F: Files, W: Write>(self, rt: &F, out: &mut W) -> io::Result<()> {
         let Limited { path, most } = self;
         match fs::metadata(rt, path) {

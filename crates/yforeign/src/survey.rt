@@ -8,6 +8,15 @@ use indexmap::IndexMap;
 use std::alloc::{AllocError, Global};
 use ysymbols::names::{SymbolTable, intern, is_among};
 
+/// A string that stands for a token.
+#[derive(Clone, Copy)]
+pub struct Alias {
+    /// The token.
+    pub token: Lexeme,
+    /// The string.
+    pub text: Lexeme,
+}
+
 /// What a file says of its symbols.
 pub struct Survey {
     /// All names.
@@ -20,8 +29,8 @@ pub struct Survey {
     pub used: SymbolTable,
     /// The names of the end.
     ends: SymbolTable,
-    /// The token of each string that stands for one.
-    aliases: IndexMap<Vec<u8>, Lexeme>,
+    /// The strings that stand for tokens, by what is between their quotes.
+    pub aliases: IndexMap<Vec<u8>, Alias>,
     /// What `%start` names.
     start: Option<Lexeme>,
     /// The first left side.
@@ -59,6 +68,15 @@ pub fn inside<'a>(source: &'a [u8], lexeme: &Lexeme) -> &'a [u8] {
     };
     text.get(before..text.len().saturating_sub(after))
         .unwrap_or(&[])
+}
+
+/// A string with its quotes.
+pub fn with_quotes<'a>(source: &'a [u8], lexeme: &Lexeme) -> &'a [u8] {
+    let text = lexeme.text(source);
+    match lexeme.kind {
+        Kind::Translated => text.get(2..text.len().saturating_sub(1)).unwrap_or(&[]),
+        _ => text,
+    }
 }
 
 /// Whether a lexeme is a string.
@@ -167,7 +185,8 @@ impl Survey {
                 (Kind::Number, Some(_)) | (Kind::Arguments, _) => {}
                 (Kind::Text | Kind::Translated, Some(token)) if directive.names_tokens() => {
                     let key = Vec::from_slice(alloc, inside(source, lexeme))?;
-                    self.aliases.insert(key, token)?;
+                    let text = *lexeme;
+                    self.aliases.insert(key, Alias { token, text })?;
                     last = None;
                 }
                 (kind, _) if is_symbol(kind) && !is_macro(lexemes, at) => {
@@ -183,7 +202,8 @@ impl Survey {
 
     /// The token that a string stands for.
     pub fn alias(&self, source: &[u8], text: &Lexeme) -> Option<Lexeme> {
-        self.aliases.get(inside(source, text)).copied()
+        let alias = self.aliases.get(inside(source, text));
+        alias.map(|alias| alias.token)
     }
 
     /// Whether a symbol is the end.

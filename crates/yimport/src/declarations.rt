@@ -21,7 +21,7 @@ impl Work<'_> {
     fn expected(&mut self, word: &Lexeme, rest: &[Lexeme]) -> Option<Expected> {
         match rest {
             [number, ..] if number.kind == Kind::Number => Some(Expected {
-                line: word.span.line,
+                span: word.span,
                 number: number_of(number.text(self.source)),
             }),
             _ => {

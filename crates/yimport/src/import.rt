@@ -1,7 +1,8 @@
 //! A file imported.
 
-use crate::applied::applied;
+use crate::applied::{Changed, applied};
 use crate::note::Note;
+use crate::pieces::Pieces;
 use crate::refusal::{Refusal, Trouble};
 use crate::spelling::Spelling;
 use crate::symbols::{Ended, Expected, Work};
@@ -9,7 +10,7 @@ use indexmap::IndexMap;
 use std::alloc::Global;
 use std::mem;
 use yforeign::groups::{Group, Head, groups_of};
-use yforeign::lexeme::Lexeme;
+use yforeign::lexeme::{Lexeme, Span};
 use yforeign::lexer::{Lexemes, lexemes_of};
 use yforeign::survey::Survey;
 
@@ -17,12 +18,14 @@ use yforeign::survey::Survey;
 pub struct Imported {
     /// The file that `yacc` reads.
     pub text: Vec<u8>,
+    /// What it has of the file that was imported.
+    pub pieces: Pieces,
     /// What was changed, by lines of the file, which are those of the text too.
     pub notes: Vec<Note>,
     /// The texts that notes name.
     pub texts: Vec<u8>,
-    /// The line of `%precedence` for each level that comes from one.
-    pub levels: Vec<Option<usize>>,
+    /// Where the `%precedence` stands for each level that comes from one.
+    pub levels: Vec<Option<Span>>,
     /// The shift/reduce conflicts that the file expects.
     pub shift_reduce: Option<Expected>,
     /// The reduce/reduce conflicts that the file expects.
@@ -40,6 +43,7 @@ impl Drop for Imported {
     fn drop(self) {
         let Imported {
             text: _,
+            pieces: _,
             notes: _,
             texts: _,
             levels: _,
@@ -94,7 +98,7 @@ impl Work<'_> {
         self.import_groups(&lexemes.all)?;
         self.edits.insert_moved();
         self.edits.trouble.checked()?;
-        self.text = applied(self.alloc, &mut self.edits)?;
+        self.changed = applied(self.alloc, &mut self.edits)?;
         self.edits.notes.sort_by_key(|note| note.span.line)?;
         Ok(())
     }
@@ -104,8 +108,11 @@ impl Work<'_> {
         let alloc = self.alloc;
         let survey = mem::replace(&mut self.survey, Survey::new(alloc));
         let made = mem::replace(&mut self.made, IndexMap::new(alloc));
+        let changed = mem::replace(&mut self.changed, Changed::new(alloc));
+        let Changed { text, pieces } = changed;
         Imported {
-            text: mem::replace(&mut self.text, Vec::new(alloc)),
+            text,
+            pieces,
             notes: mem::replace(&mut self.edits.notes, Vec::new(alloc)),
             texts: mem::replace(&mut self.edits.texts, Vec::new(alloc)),
             levels: mem::replace(&mut self.levels, Vec::new(alloc)),

@@ -8,6 +8,7 @@ mod edits;
 pub mod import;
 mod listings;
 pub mod note;
+pub mod pieces;
 pub mod refusal;
 pub mod spelling;
 pub mod symbols;

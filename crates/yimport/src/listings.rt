@@ -190,8 +190,8 @@ impl Work<'_> {
     /// Keeps the word of a list, where something but the end stands in it, and notes its level.
     fn keep_list_word(&mut self, word: &Lexeme, directive: Directive, stands: bool) {
         if directive.is_level() {
-            let line = (directive == Directive::Precedence).then_some(word.span.line);
-            self.edits.trouble.push(&mut self.levels, line);
+            let span = (directive == Directive::Precedence).then_some(word.span);
+            self.edits.trouble.push(&mut self.levels, span);
         }
         if stands {
             self.keep_word(word, directive);

@@ -4,7 +4,7 @@ use crate::note::Reason;
 use indexmap::IndexMap;
 use std::alloc::{AllocError, Global};
 use yforeign::lexeme::{Kind, Lexeme};
-use yforeign::survey::{Survey, inside, is_text};
+use yforeign::survey::{Survey, inside, is_text, with_quotes};
 use ylexemes::literal::literal_at;
 use ysymbols::names::Printed;
 use ysymbols::{Grammar, Sym};
@@ -12,12 +12,21 @@ use ysymbols::{Grammar, Sym};
 /// The end of every input.
 const END: Sym = 0;
 
+/// The name made for a string that stands for no token.
+#[derive(Clone, Copy)]
+pub struct Made {
+    /// The number in the name.
+    pub number: usize,
+    /// Where the string stands first.
+    pub text: Lexeme,
+}
+
 /// What names each symbol of a file in what it becomes.
 pub struct Spelling {
     /// What names and strings of the file are.
     survey: Survey,
-    /// The number of the name made for each string that stands for no token.
-    made: IndexMap<Vec<u8>, usize>,
+    /// The name made for each string that stands for no token.
+    made: IndexMap<Vec<u8>, Made>,
 }
 
 impl Drop for Spelling {
@@ -102,9 +111,18 @@ fn plain_symbol(
     })
 }
 
+/// Puts a string at its symbol, where that is one.
+fn put(strings: &mut [Option<Lexeme>], symbol: Option<Sym>, text: Lexeme) {
+    if let Some(symbol) = symbol {
+        if let Some(string) = strings.get_mut(symbol) {
+            *string = Some(text);
+        }
+    }
+}
+
 impl Spelling {
-    /// What a file said of its symbols, with the numbers of the names that were made.
-    pub fn new(survey: Survey, made: IndexMap<Vec<u8>, usize>) -> Spelling {
+    /// What a file said of its symbols, with the names that were made.
+    pub fn new(survey: Survey, made: IndexMap<Vec<u8>, Made>) -> Spelling {
         Spelling { survey, made }
     }
 
@@ -132,8 +150,56 @@ impl Spelling {
         }
         let key = unbroken(alloc, inside(source, lexeme))?;
         match self.made.get(&key) {
-            Some(number) => Ok(grammar.find(&made_name(alloc, *number)?)),
+            Some(made) => Ok(grammar.find(&made_name(alloc, made.number)?)),
             None => Ok(None),
         }
+    }
+
+    /// The strings that stand for tokens, each at the symbol that it is.
+    fn aliases(
+        &self,
+        alloc: Global,
+        source: &[u8],
+        grammar: &Grammar,
+    ) -> Result<Vec<Option<Lexeme>>, AllocError> {
+        let mut strings = vec![in alloc; None; grammar.symbols()]?;
+        for alias in self.survey.aliases.values() {
+            let symbol = self.symbol(alloc, source, grammar, &alias.token)?;
+            put(&mut strings, symbol, alias.text);
+        }
+        Ok(strings)
+    }
+
+    /// The string of the file for each symbol of the grammar of what it became: the last one that
+    /// stands for it, or the one that its name was made for.
+    pub fn strings(
+        &self,
+        alloc: Global,
+        source: &[u8],
+        grammar: &Grammar,
+    ) -> Result<Vec<Option<Lexeme>>, AllocError> {
+        let mut strings = self.aliases(alloc, source, grammar)?;
+        for made in self.made.values() {
+            let name = made_name(alloc, made.number)?;
+            put(&mut strings, grammar.find(&name), made.text);
+        }
+        Ok(strings)
+    }
+
+    /// These strings with their quotes, each in one line.
+    pub fn texts(
+        &self,
+        alloc: Global,
+        source: &[u8],
+        grammar: &Grammar,
+    ) -> Result<Vec<Option<Vec<u8>>>, AllocError> {
+        let mut texts = Vec::new(alloc);
+        for string in &self.strings(alloc, source, grammar)? {
+            texts.push(match string {
+                Some(string) => Some(unbroken(alloc, with_quotes(source, string))?),
+                None => None,
+            })?;
+        }
+        Ok(texts)
     }
 }

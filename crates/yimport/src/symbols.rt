@@ -1,20 +1,21 @@
 //! Symbols as `yacc` spells them.
 
+use crate::applied::Changed;
 use crate::edits::Edits;
 use crate::note::Reason;
 use crate::refusal::{Refusal, Trouble};
-use crate::spelling::{made_name, other_name, unbroken};
+use crate::spelling::{Made, made_name, other_name, unbroken};
 use indexmap::IndexMap;
 use std::alloc::{AllocError, Global};
 use yforeign::lexeme::{Lexeme, Span};
 use yforeign::survey::{Survey, inside, is_text};
 use ysymbols::names::is_among;
 
-/// A number of conflicts that a file expects, and the line that says so.
+/// A number of conflicts that a file expects, and what says so.
 #[derive(Clone, Copy, Drop)]
 pub struct Expected {
-    /// The line, counted from 1.
-    pub line: usize,
+    /// Where the directive or the comment stands.
+    pub span: Span,
     /// The number.
     pub number: usize,
 }
@@ -38,14 +39,14 @@ pub struct Work<'a> {
     pub survey: Survey,
     /// The changes so far.
     pub edits: Edits<'a>,
-    /// The number of the name made for each string that stands for no token.
-    pub made: IndexMap<Vec<u8>, usize>,
+    /// The name made for each string that stands for no token.
+    pub made: IndexMap<Vec<u8>, Made>,
     /// The last of these numbers.
     last_made: usize,
     /// The names that have no dashes any more, and where one stands that became each.
     renamed: IndexMap<Vec<u8>, Lexeme>,
-    /// The line of `%precedence` for each level that comes from one.
-    pub levels: Vec<Option<usize>>,
+    /// Where the `%precedence` stands for each level that comes from one.
+    pub levels: Vec<Option<Span>>,
     /// The shift/reduce conflicts that the file expects.
     pub shift_reduce: Option<Expected>,
     /// The reduce/reduce conflicts that the file expects.
@@ -59,7 +60,7 @@ pub struct Work<'a> {
     /// Whether a `%start` was met.
     pub has_start: bool,
     /// The file with its changes.
-    pub text: Vec<u8>,
+    pub changed: Changed,
 }
 
 impl Drop for Work<'_> {
@@ -80,7 +81,7 @@ impl Drop for Work<'_> {
             ended: _,
             left: _,
             has_start: _,
-            text: _,
+            changed: _,
         } = self;
         drop(made);
         drop(renamed);
@@ -105,7 +106,7 @@ impl<'a> Work<'a> {
             ended: Vec::new(alloc),
             left: None,
             has_start: false,
-            text: Vec::new(alloc),
+            changed: Changed::new(alloc),
         }
     }
 
@@ -171,24 +172,25 @@ impl<'a> Work<'a> {
     }
 
     /// Makes a name for a string, lists it, and gives its number.
-    fn make_name(&mut self, key: &[u8]) -> usize {
+    fn make_name(&mut self, key: &[u8], text: &Lexeme) -> usize {
         let number = self.free_number();
         self.last_made = number;
         let name = self.made_name(number);
         self.edits.list_made(&name);
         let key = Vec::from_slice(self.alloc, key);
         let key = self.made_or_trouble(key);
-        if self.made.insert(key, number).is_err() {
+        let text = *text;
+        if self.made.insert(key, Made { number, text }).is_err() {
             self.edits.trouble.remember(Trouble::Memory);
         }
         number
     }
 
     /// Writes the name made for a string.
-    fn write_made(&mut self, key: &[u8]) {
+    fn write_made(&mut self, key: &[u8], text: &Lexeme) {
         let number = match self.made.get(key) {
-            Some(number) => *number,
-            None => self.make_name(key),
+            Some(made) => made.number,
+            None => self.make_name(key, text),
         };
         let name = self.made_name(number);
         self.edits.write(&name);
@@ -204,7 +206,7 @@ impl<'a> Work<'a> {
         }
         let key = unbroken(self.alloc, inside(self.source, text));
         let key = self.made_or_trouble(key);
-        self.write_made(&key);
+        self.write_made(&key, text);
         if key.len() == 1 {
             Reason::MadeSign
         } else {

@@ -1,8 +1,10 @@
 //! Why an input, or the SPEC by which inputs are cut, isn't taken.
 
+use crate::grammars::GrammarFile;
 use std::alloc::Global;
 use std::io::{self, ErrorKind, Write};
 use std::rt::Files;
+use yexplain::lines::Spot;
 use yexplain::reads::{Made, grammar_of};
 use yexplain::text::{Escaped, Name};
 use yfaults::opening::{Opened, put_near_token, put_token_fault};
@@ -45,23 +47,47 @@ pub struct Fault {
     what: What,
 }
 
-/// Writes that no line of a SPEC gives a token, with its line in the grammar file.
+/// Writes that no line of a SPEC gives a token, with its place in the grammar file.
 fn put_ungiven<W: Write>(
     out: &mut W,
     spec: &str,
-    path: &str,
+    grammar: GrammarFile<'_>,
     opened: &Opened,
     token: Sym,
 ) -> io::Result<()> {
     let mut mentions = opened.lines.mentions().iter();
     let mention = mentions.find(|it| it.symbol == token);
-    let line = mention.map_or(1, |it| it.line);
+    let first = mention.map_or(Spot::of_line(1), |it| it.spot);
+    let (path, spot) = (grammar.path, first.told(grammar.columns));
     let name = Name(grammar_of(&opened.tables), token);
     writeln!(
         out,
-        "{path}:{line}: {name}: no line of {spec} gives this token; write one, or name it after \
+        "{path}:{spot}: {name}: no line of {spec} gives this token; write one, or name it after \
          %none"
     )
+}
+
+/// Writes the place of what isn't cut from a text, what is wrong there, and the first bytes up to
+/// the end of its line; a newline where the line ends there.
+fn put_bytes_at<W: Write>(out: &mut W, place: Place<'_>, what: &str) -> io::Result<()> {
+    let rest = place.source.get(place.at..).unwrap_or(&[]);
+    let newline = rest.iter().skip(1).position(|b| *b == b'\n');
+    let end = newline.map_or(rest.len(), |count| count.saturating_add(1));
+    let shown = Escaped(rest.get(..end.min(MOST_BYTES)).unwrap_or(rest));
+    let more = if end > MOST_BYTES { ".." } else { "" };
+    place.put_front(out)?;
+    writeln!(out, "{what}: {shown}{more}")?;
+    place.put_text(out, true)
+}
+
+/// Writes that no line of a SPEC matches at a place of a text, with the line there.
+pub fn put_unmatched<W: Write>(out: &mut W, place: Place<'_>) -> io::Result<()> {
+    put_bytes_at(out, place, "no line of the SPEC matches here")
+}
+
+/// Writes that a token too many begins at a place of a text, with the line there.
+pub fn put_too_many<W: Write>(out: &mut W, place: Place<'_>) -> io::Result<()> {
+    put_bytes_at(out, place, "more than 1,000,000 tokens; this is one more")
 }
 
 impl Fault {
@@ -110,19 +136,6 @@ impl Fault {
         }
     }
 
-    /// Writes the place, and what nothing matches there: the first bytes up to the end of its line;
-    /// a newline where the line ends there.
-    fn put_unmatched<W: Write>(&self, out: &mut W, at: usize, what: &str) -> io::Result<()> {
-        let rest = self.bytes.get(at..).unwrap_or(&[]);
-        let newline = rest.iter().skip(1).position(|b| *b == b'\n');
-        let end = newline.map_or(rest.len(), |count| count.saturating_add(1));
-        let shown = Escaped(rest.get(..end.min(MOST_BYTES)).unwrap_or(rest));
-        let more = if end > MOST_BYTES { ".." } else { "" };
-        self.place(at).put_front(out)?;
-        writeln!(out, "{what}: {shown}{more}")?;
-        self.place(at).put_text(out, true)
-    }
-
     /// Writes what is wrong with a line of a SPEC.
     fn put_line<W: Write>(&self, out: &mut W, at: usize, wrong: Wrong) -> io::Result<()> {
         let front = match wrong {
@@ -142,19 +155,20 @@ impl Fault {
         out: &mut W,
         opened: &Opened,
         fault: TokenFault,
+        columns: bool,
     ) -> io::Result<()> {
         let grammar = grammar_of(&opened.tables);
-        put_token_fault(out, &self.path, &self.bytes, fault)?;
+        put_token_fault(out, (&self.path, &self.bytes), fault, columns)?;
         put_near_token(out, alloc, grammar, &self.bytes, fault)
     }
 
     /// Writes what is wrong, with its place and the text there, for people, and gives the exit
-    /// status. The grammar of the language is open, and its file has this path.
+    /// status. The grammar of the language is open, and this is its file.
     pub fn put<F: Files + AllocGlobal, W: Write>(
         &self,
         rt: &F,
         out: &mut W,
-        grammar: &str,
+        grammar: GrammarFile<'_>,
         opened: &Opened,
     ) -> io::Result<u8> {
         let path = self.path.as_str();
@@ -163,13 +177,11 @@ impl Fault {
             What::Unread => writeln!(out, "{path}: cannot read it"),
             What::Long => Limited { path, most }.put_long_input(rt, out),
             What::LongSpec => Limited { path, most }.put_long(rt, out),
-            What::Tokens(fault) => self.put_token(rt.alloc(), out, opened, fault),
-            What::Unmatched(at) => {
-                self.put_unmatched(out, at, "no line of the SPEC matches here")
+            What::Tokens(fault) => {
+                self.put_token(rt.alloc(), out, opened, fault, grammar.columns)
             }
-            What::TooMany(at) => {
-                self.put_unmatched(out, at, "more than 1,000,000 tokens; this is one more")
-            }
+            What::Unmatched(at) => put_unmatched(out, self.place(at)),
+            What::TooMany(at) => put_too_many(out, self.place(at)),
             What::Spec(at, wrong) => self.put_line(out, at, wrong),
             What::Ungiven(token) => put_ungiven(out, path, grammar, opened, token),
         };

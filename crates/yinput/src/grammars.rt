@@ -1,12 +1,14 @@
 //! Grammar files of yacc and of bison.
 
+use crate::spelled::Spelled;
 use std::alloc::{AllocError, Global};
 use std::io::{self, Write};
 use std::mem;
 use std::rt::Files;
 use ybison::import::{Foreign, open_foreign};
+use ybison::notes::Source;
 use ybison::opening::open_text;
-use yexplain::reads::{body_of, set};
+use yexplain::reads::{body_of, grammar_of, set};
 use yfaults::opening::{Opened, grammar_bytes, put_unread};
 use ysymbols::Grammar;
 
@@ -17,6 +19,29 @@ pub struct GrammarFile<'a> {
     pub path: &'a str,
     /// Whether it is one of bison or byacc.
     pub bison: bool,
+    /// Whether places in it and in inputs are told with their columns.
+    pub columns: bool,
+}
+
+impl<'a> GrammarFile<'a> {
+    /// That of a path, of yacc or of bison, whose places are told by their lines.
+    pub fn new(path: &'a str, bison: bool) -> GrammarFile<'a> {
+        GrammarFile {
+            path,
+            bison,
+            columns: false,
+        }
+    }
+
+    /// The file of these bytes.
+    fn source(self, bytes: &'a [u8]) -> Source<'a> {
+        let GrammarFile { path, columns, .. } = self;
+        Source {
+            path,
+            bytes,
+            columns,
+        }
+    }
 }
 
 /// A grammar file that is open: the text that `yacc` reads, and what that comes to.
@@ -26,6 +51,25 @@ pub struct GrammarText {
     pub bytes: Vec<u8>,
     /// The tables, and where things stand in the text.
     pub opened: Opened,
+    /// What its tokens are called by the file.
+    pub spelled: Spelled,
+}
+
+/// The text of an import with the grammar that it is, and what the file calls its tokens.
+fn text_of(alloc: Global, source: &[u8], foreign: Foreign) -> Result<GrammarText, AllocError> {
+    let Foreign {
+        mut imported,
+        opened,
+        ..
+    } = foreign;
+    let grammar = grammar_of(&opened.tables);
+    let spelled = Spelled::of_import(alloc, source, grammar, &imported)?;
+    let bytes = mem::replace(&mut imported.text, Vec::new(alloc));
+    Ok(GrammarText {
+        bytes,
+        opened,
+        spelled,
+    })
 }
 
 /// Opens a grammar file with its text. Where it is refused, that is written, and the exit status is
@@ -41,21 +85,17 @@ pub fn open_with_text<F: Files + AllocGlobal, E: Write>(
         Err(error) => return put_unread(errors, path, &error).map(Err),
     };
     if !file.bison {
-        return match open_text(alloc, path, &bytes, errors)? {
-            Ok(opened) => Ok(Ok(GrammarText { bytes, opened })),
+        return match open_text(alloc, file.source(&bytes), errors)? {
+            Ok(opened) => Ok(Ok(GrammarText {
+                bytes,
+                opened,
+                spelled: Spelled::none(alloc),
+            })),
             Err(status) => Ok(Err(status)),
         };
     }
-    match open_foreign(alloc, errors, path, &bytes)? {
-        Ok(foreign) => {
-            let Foreign {
-                mut imported,
-                opened,
-                ..
-            } = foreign;
-            let bytes = mem::replace(&mut imported.text, Vec::new(alloc));
-            Ok(Ok(GrammarText { bytes, opened }))
-        }
+    match open_foreign(alloc, errors, file.source(&bytes))? {
+        Ok(foreign) => Ok(Ok(text_of(alloc, &bytes, foreign)?)),
         Err(status) => Ok(Err(status)),
     }
 }

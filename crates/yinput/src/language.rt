@@ -1,17 +1,19 @@
 //! A grammar with what cuts texts into its tokens, and the inputs that it reads.
 
 use crate::fault::{Fault, What};
-use crate::grammars::{GrammarFile, open_file};
+use crate::grammars::{GrammarFile, GrammarText, open_with_text};
 use crate::spec::read_lexer;
+use crate::spelled::{Spelled, Spoken};
 use crate::text::Text;
 use std::alloc::Global;
 use std::io::{self, ErrorKind, Write};
 use std::rt::Files;
-use yexplain::reads::grammar_of;
+use yexplain::reads::{Made, grammar_of};
 use yfaults::opening::Opened;
 use yfiles::reading::Limited;
 use ylex::fault::TextFault;
 use ylex::lexer::{Lexed, Lexer};
+use ylex::writer::Writer;
 use yparse::{TokenFault, Tokens, read_tokens};
 
 /// The files of a language.
@@ -23,11 +25,25 @@ pub struct LanguageFiles<'a> {
     pub spec: Option<&'a str>,
 }
 
+impl<'a> LanguageFiles<'a> {
+    /// The same files, whose places are told with their columns.
+    pub fn with_columns(self) -> LanguageFiles<'a> {
+        let LanguageFiles { grammar, spec } = self;
+        let grammar = GrammarFile {
+            columns: true,
+            ..grammar
+        };
+        LanguageFiles { grammar, spec }
+    }
+}
+
 /// A grammar that is open, and what cuts its texts, where a SPEC is given.
 #[derive(Drop)]
 pub struct Language {
     /// The tables, and where things stand in the grammar file.
     pub opened: Opened,
+    /// What its tokens are called: by the grammar file, or else by the SPEC.
+    pub spelled: Spelled,
     lexer: Option<Lexer>,
 }
 
@@ -101,27 +117,74 @@ impl Language {
         files: LanguageFiles<'_>,
         errors: &mut E,
     ) -> io::Result<Result<Language, u8>> {
-        let opened = match open_file(rt, files.grammar, errors)? {
-            Ok(opened) => opened,
+        let language = match open_with_text(rt, files.grammar, errors)? {
+            Ok(text) => Language::of_text(text),
             Err(status) => return Ok(Err(status)),
         };
         let Some(spec) = files.spec else {
-            let lexer = None;
-            return Ok(Ok(Language { opened, lexer }));
+            return Ok(Ok(language));
         };
-        match read_lexer(rt, &opened.tables, spec)? {
-            Ok(lexer) => {
-                let lexer = Some(lexer);
-                Ok(Ok(Language { opened, lexer }))
-            }
-            Err(fault) => fault.put(rt, errors, files.grammar.path, &opened).map(Err),
+        match read_lexer(rt, &language.opened.tables, spec)? {
+            Ok(lexer) => Ok(Ok(language.with_lexer(rt.alloc(), lexer)?)),
+            Err(fault) => fault
+                .put(rt, errors, files.grammar, &language.opened)
+                .map(Err),
         }
+    }
+
+    /// A grammar whose inputs are tokens files.
+    fn of_text(text: GrammarText) -> Language {
+        let GrammarText {
+            opened,
+            spelled,
+            ..
+        } = text;
+        Language {
+            opened,
+            spelled,
+            lexer: None,
+        }
+    }
+
+    /// The same with what cuts texts.
+    fn with_lexer(self, alloc: Global, lexer: Lexer) -> Made<Language> {
+        let Language {
+            opened,
+            spelled,
+            lexer: _,
+        } = self;
+        let texts = lexer.texts(alloc, grammar_of(&opened.tables))?;
+        Ok(Language {
+            opened,
+            spelled: spelled.with_texts(alloc, &texts)?,
+            lexer: Some(lexer),
+        })
+    }
+
+    /// The symbols of the grammar as people are told of them.
+    pub fn spoken(&self) -> Spoken<'_> {
+        Spoken::new(grammar_of(&self.opened.tables), &self.spelled)
+    }
+
+    /// What cuts its texts, where inputs are texts.
+    pub fn lexer(&self) -> Option<&Lexer> {
+        self.lexer.as_ref()
     }
 
     /// The grammar, once no more inputs are read.
     pub fn into_opened(self) -> Opened {
-        let Language { opened, lexer: _ } = self;
+        let Language { opened, .. } = self;
         opened
+    }
+
+    /// The grammar, and what writes texts of the language, where a SPEC is given.
+    pub fn into_writing(self, alloc: Global) -> io::Result<(Opened, Option<Writer>)> {
+        let Language { opened, lexer, .. } = self;
+        let writer = match lexer {
+            Some(lexer) => Some(Writer::new(alloc, grammar_of(&opened.tables), lexer)?),
+            None => None,
+        };
+        Ok((opened, writer))
     }
 
     /// The tokens of an input of which this was read, or why it has none.

@@ -1,10 +1,11 @@
 //! A grammar and its inputs, opened in one place: grammar files of yacc and of bison, tokens files,
 //! and texts that a SPEC cuts; what is wrong with an input, and the verdict on one.
 //!
-//! `grammars` opens grammar files, `spec` what cuts texts, and `language` both; a language reads
-//! inputs. `text` has the text that tokens were cut from, `fault` why there are none. `source`
-//! opens parses, and `parse` is one. `expected` has the tokens that can come over a stack,
-//! `verdict` what comes of an input, and `verdict_text` writes that for people and as plain lines.
+//! `spelled` has what people call tokens. `grammars` opens grammar files, `spec` what cuts texts, and
+//! `language` both; a language reads inputs. `text` has the text that tokens were cut from, `fault`
+//! why there are none. `source` opens parses, and `parse` is one. `expected` has the tokens that can
+//! come over a stack, `verdict` what comes of an input, and `verdict_text` writes that for people and
+//! as plain lines.
 #![tactic(auto)]
 
 pub mod expected;
@@ -14,6 +15,7 @@ pub mod language;
 mod parse;
 pub mod source;
 mod spec;
+pub mod spelled;
 pub mod text;
 pub mod verdict;
 pub mod verdict_text;

@@ -26,10 +26,10 @@ impl<F: Files + AllocGlobal> Source<'_, F> {
             Ok(language) => language,
             Err(status) => return Ok(Err(status)),
         };
-        let (rt, path) = (self.rt, self.files.grammar.path);
+        let (rt, grammar) = (self.rt, self.files.grammar);
         match language.read(rt, self.input)? {
             Ok(input) => Parse::new(rt.alloc(), language, input).map(Ok),
-            Err(fault) => fault.put(rt, errors, path, &language.opened).map(Err),
+            Err(fault) => fault.put(rt, errors, grammar, &language.opened).map(Err),
         }
     }
 

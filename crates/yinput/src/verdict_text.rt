@@ -2,6 +2,7 @@
 
 use crate::expected::Wanted;
 use crate::language::Input;
+use crate::spelled::Spoken;
 use crate::verdict::{Rejection, Verdict};
 use std::io::{self, Write};
 use yexplain::text::Name;
@@ -25,27 +26,29 @@ impl Verdict {
     pub fn put<W: Write>(
         &self,
         out: &mut W,
-        grammar: &Grammar,
+        spoken: Spoken<'_>,
         path: &str,
         input: &Input,
         message: Option<&[u8]>,
     ) -> io::Result<u8> {
         let written = match self {
-            Verdict::Rejected(rejection) => rejection.put(out, grammar, path, input, message),
+            Verdict::Rejected(rejection) => rejection.put(out, spoken, path, input, message),
             _ => {
                 write!(out, "{path}: ")?;
-                self.put_words(out, grammar)
+                self.put_words(out, spoken.grammar)
             }
         };
         written?;
         Ok(self.status())
     }
 
-    /// Writes it in one line for people, without a path.
+    /// Writes it in one line for people, without a path, and tokens by their names.
     pub fn put_words<W: Write>(&self, out: &mut W, grammar: &Grammar) -> io::Result<()> {
         match self {
             Verdict::Accepted(steps) => writeln!(out, "accepted after {steps} steps"),
-            Verdict::Rejected(rejection) => rejection.put_words(out, grammar, None),
+            Verdict::Rejected(rejection) => {
+                rejection.put_words(out, Spoken::by_names(grammar), None)
+            }
             Verdict::Undecided => writeln!(out, "undecided after 1,000,000 steps"),
         }
     }
@@ -76,10 +79,11 @@ fn between(index: usize, count: usize) -> &'static str {
 }
 
 /// Writes the first of some tokens as a list, and dots where there are more.
-pub fn put_list<W: Write>(out: &mut W, grammar: &Grammar, tokens: &[Sym]) -> io::Result<()> {
+pub fn put_list<W: Write>(out: &mut W, spoken: Spoken<'_>, tokens: &[Sym]) -> io::Result<()> {
     for (index, token) in tokens.iter().take(MOST_NAMED).enumerate() {
-        let (front, name) = (between(index, tokens.len()), Name(grammar, *token));
-        write!(out, "{front}{name}")?;
+        let front = between(index, tokens.len());
+        write!(out, "{front}")?;
+        spoken.put(out, *token)?;
     }
     if tokens.len() > MOST_NAMED {
         write!(out, ", ..")?;
@@ -88,23 +92,24 @@ pub fn put_list<W: Write>(out: &mut W, grammar: &Grammar, tokens: &[Sym]) -> io:
 }
 
 /// Writes which tokens were expected, as the end of a line.
-fn put_wanted<W: Write>(out: &mut W, grammar: &Grammar, wanted: &Wanted) -> io::Result<()> {
+fn put_wanted<W: Write>(out: &mut W, spoken: Spoken<'_>, wanted: &Wanted) -> io::Result<()> {
     let Wanted { can, unknown } = wanted;
     if can.is_empty() && unknown.is_empty() {
         write!(out, "; no token can come")?;
     }
     if !can.is_empty() {
         write!(out, ", expected")?;
-        put_list(out, grammar, can)?;
+        put_list(out, spoken, can)?;
     }
     if !unknown.is_empty() {
         write!(out, "; can't tell of")?;
-        put_list(out, grammar, unknown)?;
+        put_list(out, spoken, unknown)?;
     }
     writeln!(out)
 }
 
-/// Writes which tokens stand before an error: the last ones, after dots where there are more.
+/// Writes which tokens stand before an error, by their names, as tokens files have them: the last
+/// ones, after dots where there are more.
 fn put_before<W: Write>(out: &mut W, grammar: &Grammar, before: &[Sym]) -> io::Result<()> {
     if before.is_empty() {
         return writeln!(out, "  at the start");
@@ -124,28 +129,28 @@ impl Rejection {
     fn put_token<W: Write>(
         &self,
         out: &mut W,
-        grammar: &Grammar,
+        spoken: Spoken<'_>,
         message: Option<&[u8]>,
     ) -> io::Result<()> {
         if let Some(message) = message {
             out.write_all(message)?;
             return out.write_all(b"\n");
         }
-        let name = Name(grammar, self.token);
-        write!(out, "unexpected {name}")?;
-        put_wanted(out, grammar, &self.wanted)
+        write!(out, "unexpected ")?;
+        spoken.put(out, self.token)?;
+        put_wanted(out, spoken, &self.wanted)
     }
 
     /// Writes so with the number of the token.
     fn put_words<W: Write>(
         &self,
         out: &mut W,
-        grammar: &Grammar,
+        spoken: Spoken<'_>,
         message: Option<&[u8]>,
     ) -> io::Result<()> {
         let number = self.number;
         write!(out, "rejected at token {number}: ")?;
-        self.put_token(out, grammar, message)
+        self.put_token(out, spoken, message)
     }
 
     /// Writes so at its place in a text, with the line there, or of a tokens file with the tokens
@@ -153,7 +158,7 @@ impl Rejection {
     fn put<W: Write>(
         &self,
         out: &mut W,
-        grammar: &Grammar,
+        spoken: Spoken<'_>,
         path: &str,
         input: &Input,
         message: Option<&[u8]>,
@@ -161,13 +166,14 @@ impl Rejection {
         if let Some(text) = &input.text {
             let place = text.place(self.number);
             place.put_front(out)?;
-            self.put_token(out, grammar, message)?;
+            self.put_token(out, spoken, message)?;
             return place.put_text(out, true);
         }
         let tokens = &input.tokens.symbols;
         write!(out, "{path}: ")?;
-        self.put_words(out, grammar, message)?;
-        put_before(out, grammar, tokens.get(..self.before()).unwrap_or(tokens))
+        self.put_words(out, spoken, message)?;
+        let before = tokens.get(..self.before()).unwrap_or(tokens);
+        put_before(out, spoken.grammar, before)
     }
 }
 

@@ -3,6 +3,7 @@
 
 use crate::fault::{SpecFault, TextFault, Wrong};
 use crate::spec::{Rule, Spec, Word};
+use crate::spelled::{Texts, plain_texts};
 use regex::Error;
 use regex::bytes::{Matcher, Regex};
 use std::alloc::{AllocError, Global};
@@ -12,6 +13,9 @@ use ytokens::tokens::Tokens;
 
 /// The most tokens of a text.
 pub const MOST_TOKENS: usize = 1_000_000;
+
+/// The most searches by which texts of tokens are tried: each text is by each expression.
+const MOST_SEARCHES: usize = 1_000_000;
 
 /// A text as tokens.
 #[derive(Drop)]
@@ -45,12 +49,17 @@ impl Found {
 /// What cuts texts.
 #[derive(Drop)]
 pub struct Lexer {
-    words: Vec<Word>,
-    literals: Vec<Option<Sym>>,
+    /// The words that stand for themselves.
+    pub(crate) words: Vec<Word>,
+    /// The literal of each byte.
+    pub(crate) literals: Vec<Option<Sym>>,
     /// The token of each expression; `None` where what it matches is passed over.
-    tokens: Vec<Option<Sym>>,
-    regexes: Vec<Regex>,
+    pub(crate) tokens: Vec<Option<Sym>>,
+    /// The expressions.
+    pub(crate) regexes: Vec<Regex>,
     named: Vec<bool>,
+    /// The texts of tokens, none of them tried.
+    plain: Texts,
 }
 
 /// A text on its way to be cut.
@@ -156,6 +165,7 @@ fn begins(rest: &[u8], text: &[u8], folded: bool) -> bool {
 impl Lexer {
     /// What cuts texts by a SPEC; or the first expression that is refused.
     pub fn new(alloc: Global, grammar: &Grammar, spec: Spec<'_>) -> Result<Lexer, SpecFault> {
+        let plain = plain_texts(alloc, grammar, &spec)?;
         let Spec {
             rules,
             words,
@@ -171,12 +181,29 @@ impl Lexer {
             tokens,
             regexes,
             named,
+            plain,
         })
     }
 
     /// Whether the SPEC names a symbol.
     pub fn names(&self, symbol: Sym) -> bool {
         self.named.get(symbol) == Some(&true)
+    }
+
+    /// Whether a text can have a token: a line gives it, or it stands for itself.
+    pub fn gives(&self, token: Sym) -> bool {
+        self.tokens.contains(&Some(token))
+            || self.literals.contains(&Some(token))
+            || self.words.iter().any(|word| word.token == token)
+    }
+
+    /// A text before it is cut.
+    fn cutting<'a>(&'a self, alloc: Global, grammar: &'a Grammar) -> Made<Cutting<'a>> {
+        Ok(Cutting {
+            lexer: self,
+            grammar,
+            matchers: matchers_of(alloc, &self.regexes)?,
+        })
     }
 
     /// Cuts a text into tokens.
@@ -186,14 +213,25 @@ impl Lexer {
         grammar: &'a Grammar,
         bytes: &[u8],
     ) -> Result<Lexed, TextFault> {
-        let mut cutting = Cutting {
-            lexer: self,
-            grammar,
-            matchers: matchers_of(alloc, &self.regexes)?,
-        };
+        let mut cutting = self.cutting(alloc, grammar)?;
         let mut lexed = Lexed::new(alloc);
         cutting.lex(&mut lexed, bytes)?;
         Ok(lexed)
+    }
+
+    /// The texts of tokens that always look the same, each of which is cut into that token alone:
+    /// this is tried of as many as the searches allow.
+    pub fn texts<'a>(&'a self, alloc: Global, grammar: &'a Grammar) -> Made<Texts> {
+        let most = MOST_SEARCHES.checked_div(self.regexes.len()).unwrap_or(0);
+        let mut cutting = self.cutting(alloc, grammar)?;
+        let mut texts = Vec::new(alloc);
+        let mut tried: usize = 0;
+        for (token, text) in self.plain.iter().enumerate() {
+            tried = tried.saturating_add(usize::from(text.is_some()));
+            let text = text.as_ref().filter(|_| tried <= most);
+            texts.push(cutting.confirmed(alloc, token, text)?)?;
+        }
+        Ok(texts)
     }
 }
 
@@ -226,6 +264,24 @@ impl Cutting<'_> {
             }
         }
         found
+    }
+
+    /// A text again, where it is cut into this token alone.
+    fn confirmed(
+        &mut self,
+        alloc: Global,
+        token: Sym,
+        text: Option<&Vec<u8>>,
+    ) -> Made<Option<Vec<u8>>> {
+        let Some(text) = text else {
+            return Ok(None);
+        };
+        let found = self.front(text);
+        if found.length == text.len() && found.token == Some(token) {
+            Ok(Some(Vec::from_slice(alloc, text)?))
+        } else {
+            Ok(None)
+        }
     }
 
     /// Takes what stands after so many bytes, and says after how many it ends.

@@ -1,13 +1,11 @@
 //! The inputs of a file of messages, and the states that they claim.
 
 use crate::file::{Part, Span, is_comment};
+use crate::inputs::{Inputs, Listed, Wrong};
 use std::alloc::{AllocError, Global};
-use std::io::{self, ErrorKind};
+use std::io;
 use yexplain::reads::set;
 use yinput::verdict::{Verdict, verdict_on};
-use ylalr::END;
-use yparse::{TokenFault, Tokens, read_tokens};
-use ysymbols::Sym;
 use ytables::Tables;
 
 /// What a parse over an input comes to.
@@ -32,21 +30,19 @@ pub struct Claim {
     pub part: usize,
     /// Its line.
     pub line: Span,
-    /// Its tokens but for the end.
-    pub tokens: Tokens,
-    /// Whether the end stands after them, which is then the last token.
-    pub ended: bool,
+    /// Its tokens.
+    pub input: Listed,
     /// What a parse over it comes to.
     pub came: Came,
 }
 
-/// An input whose tokens aren't those of a grammar.
+/// An input that isn't read.
 #[derive(Clone, Copy, Drop)]
 pub struct Unread {
     /// Its line.
     pub line: Span,
     /// What is wrong.
-    pub fault: TokenFault,
+    pub wrong: Wrong,
 }
 
 /// The inputs of a file with what they claim.
@@ -56,23 +52,6 @@ pub struct Claims {
     pub all: Vec<Claim>,
     /// For each state, the first input that claims it.
     owners: Vec<Option<usize>>,
-}
-
-/// Whether a word can begin after some bytes.
-fn ends_word(bytes: &[u8]) -> bool {
-    match bytes.last() {
-        None | Some(b' ') | Some(b'\t') | Some(b'\'') => true,
-        Some(_) => false,
-    }
-}
-
-/// The text of an input without the end, where that is its last word.
-fn without_end(line: &[u8]) -> (&[u8], bool) {
-    let text = line.trim_ascii_end();
-    match text.strip_suffix(b"$end") {
-        Some(rest) if ends_word(rest) => (rest, true),
-        _ => (text, false),
-    }
 }
 
 /// What a verdict on an input comes to.
@@ -98,15 +77,6 @@ impl Claim {
             _ => None,
         }
     }
-
-    /// The tokens before the last one, and that.
-    pub fn list(&self) -> (&[Sym], Sym) {
-        let symbols = self.tokens.symbols.as_slice();
-        match symbols.split_last() {
-            Some((last, before)) if !self.ended => (before, *last),
-            _ => (symbols, END),
-        }
-    }
 }
 
 impl Claims {
@@ -116,16 +86,15 @@ impl Claims {
         alloc: Global,
         tables: &Tables,
         (part, line): (usize, Span),
-        (tokens, ended): (Tokens, bool),
+        input: Listed,
     ) -> io::Result<()> {
-        let verdict = verdict_on(alloc, tables, &tokens)?;
-        let came = came_of(&verdict, tokens.len(), ended);
+        let verdict = verdict_on(alloc, tables, &input.tokens)?;
+        let came = came_of(&verdict, input.tokens.len(), input.ended);
         let number = self.all.len();
         let claim = Claim {
             part,
             line,
-            tokens,
-            ended,
+            input,
             came,
         };
         if let Some(state) = claim.state() {
@@ -137,38 +106,36 @@ impl Claims {
         Ok(())
     }
 
-    /// Reads a line of a part; a fault, where it is an input that has one.
+    /// Reads a line of a part; why it isn't read, where it is an input.
     fn read_line(
         &mut self,
         alloc: Global,
-        tables: &Tables,
+        inputs: Inputs<'_>,
         source: &[u8],
         (part, line): (usize, Span),
     ) -> io::Result<Option<Unread>> {
         if is_comment(line.of(source)) {
             return Ok(None);
         }
-        let (text, ended) = without_end(line.of(source));
-        match read_tokens(alloc, tables, text) {
-            Ok(tokens) => {
-                self.add(alloc, tables, (part, line), (tokens, ended))?;
+        match inputs.read(alloc, line.of(source))? {
+            Ok(input) => {
+                self.add(alloc, inputs.tables, (part, line), input)?;
                 Ok(None)
             }
-            Err(TokenFault::Memory) => Err(io::Error::from(ErrorKind::OutOfMemory)),
-            Err(fault) => Ok(Some(Unread { line, fault })),
+            Err(wrong) => Ok(Some(Unread { line, wrong })),
         }
     }
 
-    /// Reads the lines of a part, up to the first fault.
+    /// Reads the lines of a part, up to the first that isn't read.
     fn read_part(
         &mut self,
         alloc: Global,
-        tables: &Tables,
+        inputs: Inputs<'_>,
         source: &[u8],
         (number, part): (usize, &Part),
     ) -> io::Result<Option<Unread>> {
         for line in &part.lines {
-            let found = self.read_line(alloc, tables, source, (number, *line))?;
+            let found = self.read_line(alloc, inputs, source, (number, *line))?;
             if found.is_some() {
                 return Ok(found);
             }
@@ -194,16 +161,16 @@ impl Claims {
     /// The claims of the inputs of a file with these parts, or the first input that isn't read.
     pub fn new(
         alloc: Global,
-        tables: &Tables,
+        inputs: Inputs<'_>,
         source: &[u8],
         parts: &[Part],
     ) -> io::Result<Result<Claims, Unread>> {
         let mut claims = Claims {
             all: Vec::new(alloc),
-            owners: vec![in alloc; None; tables.automaton().states()]?,
+            owners: vec![in alloc; None; inputs.tables.automaton().states()]?,
         };
         for (number, part) in parts.iter().enumerate() {
-            if let Some(unread) = claims.read_part(alloc, tables, source, (number, part))? {
+            if let Some(unread) = claims.read_part(alloc, inputs, source, (number, part))? {
                 return Ok(Err(unread));
             }
         }

@@ -1,20 +1,29 @@
-//! Messages as data, for drivers: the pieces of the message of each state that has one.
+//! Messages as data, for drivers: what tokens are called, and the pieces of the message of each state
+//! that has one.
 
 use crate::messages::Messages;
 use crate::slots::{Slot, slots_of};
 use std::alloc::Global;
 use std::io::{self, Write};
 use ydigest::digest_of;
+use yexplain::reads::grammar_of;
+use yinput::spelled::Spelled;
 use ytables::Tables;
 
-/// Writes a piece of a message as a line; its bytes may have newlines among them.
+/// Writes some bytes after how many they are; there may be newlines among them.
+fn put_counted<W: Write>(out: &mut W, bytes: &[u8]) -> io::Result<()> {
+    let length = bytes.len();
+    write!(out, "{length} ")?;
+    out.write_all(bytes)?;
+    writeln!(out)
+}
+
+/// Writes a piece of a message as a line.
 fn put_slot<W: Write>(out: &mut W, slot: Slot<'_>) -> io::Result<()> {
     match slot {
         Slot::Text(bytes) => {
-            let length = bytes.len();
-            write!(out, "text {length} ")?;
-            out.write_all(bytes)?;
-            writeln!(out)
+            write!(out, "text ")?;
+            put_counted(out, bytes)
         }
         Slot::Value(number) => writeln!(out, "value {number}"),
         Slot::Expected => writeln!(out, "expected"),
@@ -38,11 +47,29 @@ fn put_state<W: Write>(
     Ok(())
 }
 
-/// The messages of all states as data, with the digest of the table for which they are.
-pub fn data_of(alloc: Global, tables: &Tables, messages: &Messages) -> io::Result<Vec<u8>> {
+/// Writes what tokens are called, where that isn't their names.
+fn put_spelled<W: Write>(out: &mut W, tables: &Tables, spelled: &Spelled) -> io::Result<()> {
+    for symbol in 0..grammar_of(tables).symbols() {
+        if let Some(text) = spelled.of(symbol) {
+            write!(out, "spelled {symbol} ")?;
+            put_counted(out, text)?;
+        }
+    }
+    Ok(())
+}
+
+/// The messages of all states as data, with the digest of the table for which they are, and with
+/// what tokens are called.
+pub fn data_of(
+    alloc: Global,
+    tables: &Tables,
+    spelled: &Spelled,
+    messages: &Messages,
+) -> io::Result<Vec<u8>> {
     let digest = digest_of(alloc, tables)?;
     let mut text = Vec::new(alloc);
     write!(text, "messages 1\ntable {digest}\n")?;
+    put_spelled(&mut text, tables, spelled)?;
     for state in 0..tables.automaton().states() {
         put_state(alloc, &mut text, messages, state)?;
     }

@@ -3,14 +3,14 @@
 use crate::slots::{Slot, slots_of};
 use std::alloc::Global;
 use std::io::{self, Write};
-use yexplain::text::{Name, Names};
 use yinput::expected::Entry;
 use yinput::language::Input;
+use yinput::spelled::Spoken;
 use yinput::text::Text;
 use yinput::verdict::Rejection;
 use yinput::verdict_text::put_list;
 use ylalr::END;
-use ysymbols::{Grammar, Sym};
+use ysymbols::Sym;
 
 /// The most bytes, and the most tokens, of one entry of the stack.
 const MOST_BYTES: usize = 80;
@@ -21,7 +21,7 @@ const MOST_TOKENS: usize = 20;
 #[derive(Clone, Copy)]
 struct Filling<'a> {
     alloc: Global,
-    grammar: &'a Grammar,
+    spoken: Spoken<'a>,
     input: &'a Input,
     rejection: &'a Rejection,
 }
@@ -51,11 +51,13 @@ fn put_bytes<W: Write>(out: &mut W, bytes: &[u8]) -> io::Result<()> {
 }
 
 /// Writes some tokens, and dots where there are more.
-fn put_tokens<W: Write>(out: &mut W, grammar: &Grammar, tokens: &[Sym]) -> io::Result<()> {
+fn put_tokens<W: Write>(out: &mut W, spoken: Spoken<'_>, tokens: &[Sym]) -> io::Result<()> {
     let shown = tokens.get(..MOST_TOKENS).unwrap_or(tokens);
-    if let Some((first, rest)) = shown.split_first() {
-        let (name, names) = (Name(grammar, *first), Names(grammar, rest));
-        write!(out, "{name}{names}")?;
+    for (index, token) in shown.iter().enumerate() {
+        if index > 0 {
+            write!(out, " ")?;
+        }
+        spoken.put(out, *token)?;
     }
     if shown.len() < tokens.len() {
         write!(out, " ..")?;
@@ -74,12 +76,12 @@ impl<'a> Filling<'a> {
     }
 
     /// Writes the tokens of the input from one place to another: as they stand in a text, unless
-    /// these are blanks alone, or by their names.
+    /// these are blanks alone, or by what they are called.
     fn put_part<W: Write>(self, out: &mut W, start: usize, end: usize) -> io::Result<()> {
         let bytes = self.bytes(start, end);
         if bytes.is_empty() {
             let tokens = self.input.tokens.symbols.get(start..end);
-            put_tokens(out, self.grammar, tokens.unwrap_or(&[]))
+            put_tokens(out, self.spoken, tokens.unwrap_or(&[]))
         } else {
             put_bytes(out, bytes)
         }
@@ -89,8 +91,7 @@ impl<'a> Filling<'a> {
     fn put_token<W: Write>(self, out: &mut W) -> io::Result<()> {
         let Rejection { number, token, .. } = self.rejection;
         if *token == END {
-            let name = Name(self.grammar, *token);
-            return write!(out, "{name}");
+            return self.spoken.put(out, END);
         }
         self.put_part(out, self.rejection.before(), *number)
     }
@@ -118,7 +119,7 @@ impl<'a> Filling<'a> {
     /// Writes the tokens that could come.
     fn put_expected<W: Write>(self, out: &mut W) -> io::Result<()> {
         let mut list = Vec::new(self.alloc);
-        put_list(&mut list, self.grammar, &self.rejection.wanted.can)?;
+        put_list(&mut list, self.spoken, &self.rejection.wanted.can)?;
         out.write_all(list.as_slice().trim_ascii_start())
     }
 
@@ -140,18 +141,18 @@ fn text_between(text: &Text, start: usize, end: usize) -> &[u8] {
     text.bytes.get(from..to).unwrap_or(&[])
 }
 
-/// A message about a rejection of an input.
-pub fn filled(
+/// A message about a rejection of an input, with what tokens are called.
+pub fn filled<'a>(
     alloc: Global,
-    grammar: &Grammar,
+    spoken: Spoken<'a>,
     message: &[u8],
-    input: &Input,
-    rejection: &Rejection,
+    input: &'a Input,
+    rejection: &'a Rejection,
 ) -> io::Result<Vec<u8>> {
     let mut text = Vec::new(alloc);
     let filling = Filling {
         alloc,
-        grammar,
+        spoken,
         input,
         rejection,
     };

@@ -1,20 +1,23 @@
 //! Files of messages: blocks of wrong inputs, each with a message for the states in which their
 //! errors are detected.
 //!
-//! `file` cuts a file into its parts, `claims` reads the inputs and says which state each claims,
-//! and `messages` is a file whose inputs are read. `refusal` says what is wrong with one. `slots` are
-//! the pieces of a message; `filling` writes one with what stands for its `$0`, `$1` and `$expected`,
-//! and `data` all of them as data. `sheet` is what is written of a state, and `update` a whole file.
-//! `run` is `ydebug errors`.
+//! `file` cuts a file into its parts, `inputs` reads a line as tokens or as a text, `claims` says
+//! which state each input claims, and `messages` is a file whose inputs are read. `refusal` says
+//! what is wrong with one. `slots` are the pieces of a message; `filling` writes one with what
+//! stands for its `$0`, `$1` and `$expected`, and `data` all of them as data. `written` is an
+//! input as a line, `sheet` what is written of a state, and `update` a whole file. `run` is
+//! `ydebug errors`.
 #![tactic(auto)]
 
 mod claims;
 mod data;
 mod file;
 pub mod filling;
+pub mod inputs;
 pub mod messages;
 mod refusal;
 pub mod run;
 mod sheet;
 pub mod slots;
 mod update;
+mod written;

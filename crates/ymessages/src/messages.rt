@@ -1,13 +1,15 @@
 //! A file of messages whose inputs are read.
 
 use crate::claims::Claims;
-use crate::file::{Cut, Part, parts_of};
+use crate::file::{Cut, Part, is_comment, parts_of};
+use crate::inputs::Inputs;
 use crate::refusal::Source;
 use std::alloc::Global;
 use std::io::{self, ErrorKind, Write};
 use std::rt::Files;
 use yexplain::reads::grammar_of;
 use yfiles::reading::Limited;
+use yinput::language::Language;
 use ytables::Tables;
 
 /// A file of messages: its bytes, its parts, and what its inputs claim.
@@ -40,15 +42,15 @@ fn read_parts<E: Write>(
 /// The inputs of a file with these parts, or what is wrong with the first that isn't read.
 fn claims_of<E: Write>(
     alloc: Global,
-    tables: &Tables,
+    inputs: Inputs<'_>,
     source: Source<'_>,
     parts: &[Part],
     errors: &mut E,
 ) -> io::Result<Result<Claims, u8>> {
-    match Claims::new(alloc, tables, source.bytes, parts)? {
+    match Claims::new(alloc, inputs, source.bytes, parts)? {
         Ok(claims) => Ok(Ok(claims)),
         Err(unread) => {
-            source.put_unread(errors, alloc, grammar_of(tables), unread)?;
+            source.put_unread(errors, alloc, grammar_of(inputs.tables), unread)?;
             Ok(Err(1))
         }
     }
@@ -75,26 +77,51 @@ pub(crate) fn bytes_of<F: Files + AllocGlobal, E: Write>(
     }
 }
 
+/// Whether each line of a part is a comment or an input.
+fn are_read(alloc: Global, inputs: Inputs<'_>, source: &[u8], part: &Part) -> io::Result<bool> {
+    for line in &part.lines {
+        let line = line.of(source);
+        if !is_comment(line) && inputs.read(alloc, line)?.is_err() {
+            return Ok(false);
+        }
+    }
+    Ok(true)
+}
+
+/// Whether all inputs of a file are tokens of these tables.
+fn has_tokens_alone(alloc: Global, tables: &Tables, source: &[u8]) -> io::Result<bool> {
+    let Ok(parts) = parts_of(alloc, source) else {
+        return Ok(false);
+    };
+    for part in &parts {
+        if !are_read(alloc, Inputs::of_tokens(tables), source, part)? {
+            return Ok(false);
+        }
+    }
+    Ok(true)
+}
+
 impl Messages {
-    /// A file of these bytes, for these tables. Where it can't be read, what is wrong is written,
-    /// and the exit status is the answer. Inputs that aren't errors at their last token are read
-    /// too.
+    /// A file of these bytes, by its path and whether columns are wanted, whose inputs are read so.
+    /// Where it can't be read, what is wrong is written, and the exit status is the answer. Inputs
+    /// that aren't errors at their last token are read too.
     pub(crate) fn read<E: Write>(
         alloc: Global,
-        tables: &Tables,
-        path: &str,
+        inputs: Inputs<'_>,
+        (path, columns): (&str, bool),
         bytes: Vec<u8>,
         errors: &mut E,
     ) -> io::Result<Result<Messages, u8>> {
         let source = Source {
             path,
             bytes: &bytes,
+            columns,
         };
         let parts = match read_parts(alloc, source, errors)? {
             Ok(parts) => parts,
             Err(status) => return Ok(Err(status)),
         };
-        let claims = match claims_of(alloc, tables, source, &parts, errors)? {
+        let claims = match claims_of(alloc, inputs, source, &parts, errors)? {
             Ok(claims) => claims,
             Err(status) => return Ok(Err(status)),
         };
@@ -115,34 +142,35 @@ impl Messages {
         let source = Source {
             path,
             bytes: &self.bytes,
+            columns: false,
         };
         source.put_claims(errors, grammar_of(tables), &self.claims)
     }
 
-    /// A file of these bytes, for these tables. Where something is wrong with it, that is written,
-    /// and the exit status is the answer.
+    /// A file of these bytes, by its path and whether columns are wanted, whose inputs are read so.
+    /// Where something is wrong with it, that is written, and the exit status is the answer.
     pub fn checked<E: Write>(
         alloc: Global,
-        tables: &Tables,
-        path: &str,
+        inputs: Inputs<'_>,
+        named: (&str, bool),
         bytes: Vec<u8>,
         errors: &mut E,
     ) -> io::Result<Result<Messages, u8>> {
-        let messages = match Messages::read(alloc, tables, path, bytes, errors)? {
+        let messages = match Messages::read(alloc, inputs, named, bytes, errors)? {
             Ok(messages) => messages,
             Err(status) => return Ok(Err(status)),
         };
-        match messages.put_wrong(tables, path, errors)? {
+        match messages.put_wrong(inputs.tables, named.0, errors)? {
             0 => Ok(Ok(messages)),
             _ => Ok(Err(1)),
         }
     }
 
-    /// Opens a file, for these tables. Where something is wrong with it, that is written, and the
-    /// exit status is the answer.
+    /// Opens a file, whose inputs are read so. Where something is wrong with it, that is written,
+    /// and the exit status is the answer.
     pub fn open<F: Files + AllocGlobal, E: Write>(
         rt: &F,
-        tables: &Tables,
+        inputs: Inputs<'_>,
         file: Limited<'_>,
         errors: &mut E,
     ) -> io::Result<Result<Messages, u8>> {
@@ -150,7 +178,28 @@ impl Messages {
             Ok(bytes) => bytes,
             Err(status) => return Ok(Err(status)),
         };
-        Messages::checked(rt.alloc(), tables, file.path, bytes, errors)
+        Messages::checked(rt.alloc(), inputs, (file.path, false), bytes, errors)
+    }
+
+    /// Opens a file likewise, whose inputs are those of a language, or are all tokens; with columns
+    /// where they are wanted.
+    pub fn open_for<F: Files + AllocGlobal, E: Write>(
+        rt: &F,
+        language: &Language,
+        (file, columns): (Limited<'_>, bool),
+        errors: &mut E,
+    ) -> io::Result<Result<Messages, u8>> {
+        let bytes = match bytes_of(rt, file, errors)? {
+            Ok(bytes) => bytes,
+            Err(status) => return Ok(Err(status)),
+        };
+        let tables = &language.opened.tables;
+        let inputs = if has_tokens_alone(rt.alloc(), tables, &bytes)? {
+            Inputs::of_tokens(tables)
+        } else {
+            Inputs::of_language(language)
+        };
+        Messages::checked(rt.alloc(), inputs, (file.path, columns), bytes, errors)
     }
 
     /// The message of a state, where it has one.

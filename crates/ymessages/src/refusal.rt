@@ -2,11 +2,13 @@
 
 use crate::claims::{Came, Claim, Claims, Unread};
 use crate::file::Span;
+use crate::inputs::Wrong;
 use std::alloc::Global;
 use std::io::{self, Write};
 use yexplain::text::Name;
 use yfaults::opening::put_part_fault;
 use yfaults::shown::Place;
+use yinput::fault::{put_too_many, put_unmatched};
 use ysymbols::Grammar;
 
 /// A file of messages: its path and its bytes.
@@ -16,6 +18,8 @@ pub struct Source<'a> {
     pub path: &'a str,
     /// The bytes.
     pub bytes: &'a [u8],
+    /// Whether places are told with their columns. What is wrong with a whole line has none.
+    pub columns: bool,
 }
 
 /// What a parse over an input comes to, where its last token is no error.
@@ -30,7 +34,7 @@ pub fn put_came<W: Write>(out: &mut W, grammar: &Grammar, claim: &Claim) -> io::
         ),
         Came::Early(number) => {
             let place = number.saturating_sub(1);
-            let token = claim.tokens.symbols.get(place).copied().unwrap_or(0);
+            let token = claim.input.tokens.symbols.get(place).copied().unwrap_or(0);
             let name = Name(grammar, token);
             write!(out, "token {number}, {name}, is an error already")
         }
@@ -44,6 +48,15 @@ impl Source<'_> {
             path: self.path,
             source: self.bytes,
             at: line.start,
+        }
+    }
+
+    /// The place in a line after so many of its bytes.
+    fn place_in(&self, line: Span, before: usize) -> Place<'_> {
+        Place {
+            path: self.path,
+            source: self.bytes,
+            at: line.start.saturating_add(before),
         }
     }
 
@@ -64,7 +77,7 @@ impl Source<'_> {
         )
     }
 
-    /// Writes what is wrong with the tokens of an input.
+    /// Writes why an input isn't read.
     pub fn put_unread<W: Write>(
         &self,
         out: &mut W,
@@ -72,9 +85,15 @@ impl Source<'_> {
         grammar: &Grammar,
         unread: Unread,
     ) -> io::Result<()> {
-        let Unread { line, fault } = unread;
-        let (place, part) = (self.place(line), line.of(self.bytes));
-        put_part_fault(out, alloc, grammar, place, part, fault)
+        let Unread { line, wrong } = unread;
+        match wrong {
+            Wrong::Tokens(fault) => {
+                let tokens = (self.place(line), line.of(self.bytes));
+                put_part_fault(out, alloc, grammar, tokens, fault, self.columns)
+            }
+            Wrong::Unmatched(before) => put_unmatched(out, self.place_in(line, before)),
+            Wrong::TooMany(before) => put_too_many(out, self.place_in(line, before)),
+        }
     }
 
     /// Writes that the last token of an input is no error.

@@ -1,30 +1,36 @@
 //! `ydebug errors`.
 
 use crate::data::data_of;
+use crate::inputs::Inputs;
 use crate::messages::{Messages, bytes_of};
-use crate::sheet::put_input;
-use crate::update::{Update, confirm_all};
+use crate::update::{New, Update, confirm_all};
 use std::alloc::Global;
 use std::fs;
 use std::io::{self, Write};
 use std::rt::Files;
 use ycounterexample::trial::empty_session;
+use yerrors::confirm::Confirmed;
 use yerrors::errors::Errors;
-use yexplain::reads::grammar_of;
+use yexplain::reads::{Made, grammar_of};
+use yexplain::text::{Name, Names};
 use yfaults::opening::Opened;
 use yfiles::reading::Limited;
 use yfiles::same::refused_output;
 use yfiles::writing::put_output;
-use yinput::grammars::{GrammarFile, open_file};
+use yinput::language::{Language, LanguageFiles};
+use yinput::spelled::Spelled;
+use ylalr::END;
+use ylex::writer::Writer;
 use yparse::Session;
+use ysymbols::Grammar;
 use ytables::Tables;
 use yview::page::Page;
 
 /// What is asked for: the errors of a grammar, or a file of messages for them.
 #[derive(Clone, Copy)]
 pub struct Asked<'a> {
-    /// The grammar file.
-    pub grammar: GrammarFile<'a>,
+    /// The files of their language.
+    pub files: LanguageFiles<'a>,
     /// The file of messages.
     pub messages: Option<Limited<'a>>,
     /// Whether each state in which an error is detected is to have a message.
@@ -41,58 +47,146 @@ struct Found {
     session: Session,
     messages: Messages,
     errors: Errors,
+    /// Those by inputs for whose tokens texts are found, where some have none.
+    told: Option<Errors>,
+    writer: Option<Writer>,
+}
+
+/// Which tokens no input has: where inputs are texts, those that no line of the SPEC gives.
+fn absent_in(alloc: Global, grammar: &Grammar, writer: Option<&Writer>) -> Made<Vec<bool>> {
+    let mut absent = Vec::new(alloc);
+    if let Some(writer) = writer {
+        for token in 0..grammar.symbols() {
+            absent.push(token != END && !writer.lexer().gives(token))?;
+        }
+    }
+    Ok(absent)
+}
+
+/// Which tokens have no text, where inputs are texts: those among them, and those for which none
+/// is found.
+fn untold_in(alloc: Global, grammar: &Grammar, writer: Option<&Writer>) -> Made<Vec<bool>> {
+    let mut untold = Vec::new(alloc);
+    if let Some(writer) = writer {
+        for token in 0..grammar.symbols() {
+            untold.push(token != END && !writer.tells(token))?;
+        }
+    }
+    Ok(untold)
+}
+
+/// The errors of states by inputs for whose tokens texts are found, where that leaves some out.
+fn told_errors(
+    alloc: Global,
+    session: &mut Session,
+    absent: &[bool],
+    untold: &[bool],
+) -> io::Result<Option<Errors>> {
+    if absent == untold {
+        return Ok(None);
+    }
+    Errors::new(alloc, session, untold).map(Some)
 }
 
 impl Found {
-    /// What is found for a file, by the tables of a grammar.
-    fn new(alloc: Global, opened: Opened, messages: Messages) -> io::Result<Found> {
+    /// What is found for a file, by the tables of a language.
+    fn new(alloc: Global, language: Language, messages: Messages) -> io::Result<Found> {
+        let (opened, writer) = language.into_writing(alloc)?;
         let Opened { tables, lines: _ } = opened;
+        let absent = absent_in(alloc, grammar_of(&tables), writer.as_ref())?;
+        let untold = untold_in(alloc, grammar_of(&tables), writer.as_ref())?;
         let mut session = empty_session(alloc, tables);
-        let errors = Errors::new(alloc, &mut session)?;
+        let errors = Errors::new(alloc, &mut session, &absent)?;
+        let told = told_errors(alloc, &mut session, &absent, &untold)?;
         Ok(Found {
             session,
             messages,
             errors,
+            told,
+            writer,
         })
     }
 
-    /// Writes the file anew, and says how many of its states are new.
-    fn put<W: Write>(&mut self, alloc: Global, path: &str, out: &mut W) -> io::Result<usize> {
+    /// Writes the file anew, and says which states are new.
+    fn put<W: Write>(&mut self, alloc: Global, path: &str, out: &mut W) -> io::Result<New> {
         let confirmed = confirm_all(alloc, &mut self.session, &self.messages)?;
-        let update = Update {
-            path,
-            tables: self.session.tables(),
-            errors: &self.errors,
-            messages: &self.messages,
-            confirmed: &confirmed,
-        };
-        let mut page = Page::new(out, false);
-        update.put(&mut page);
-        page.checked()?;
-        Ok(update.count_new())
+        put_file(alloc, &*self, path, &confirmed, out)
     }
 
     /// Writes the states that have no message, each with an input for it, and says how many they
     /// are.
-    fn put_missing<E: Write>(&self, path: &str, errors: &mut E) -> io::Result<usize> {
+    fn put_missing<E: Write>(
+        &self,
+        alloc: Global,
+        path: &str,
+        errors: &mut E,
+    ) -> io::Result<usize> {
         let update = Update {
+            alloc,
             path,
             tables: self.session.tables(),
             errors: &self.errors,
+            told: self.told.as_ref(),
             messages: &self.messages,
             confirmed: &[],
+            writer: self.writer.as_ref(),
         };
-        let mut page = Page::new(errors, false);
+        let mut count: usize = 0;
         for state in 0..self.errors.outcomes.len() {
             if let Some(confirmed) = update.new_list(state) {
-                let _ = write!(page, "{path}: state {state} has no message: ");
-                let grammar = grammar_of(update.tables);
-                put_input(&mut page, grammar, &confirmed.tokens, confirmed.last);
+                put_silent(update, errors, state, confirmed)?;
+                count = count.saturating_add(1);
             }
         }
-        page.checked()?;
-        Ok(update.count_new())
+        Ok(count)
     }
+}
+
+/// Writes a file anew, with what is confirmed of its inputs, and says which states are new.
+fn put_file<'a, W: Write>(
+    alloc: Global,
+    found: &'a Found,
+    path: &'a str,
+    confirmed: &'a [Option<Confirmed>],
+    out: &mut W,
+) -> io::Result<New> {
+    let told = found.told.as_ref();
+    let writer = found.writer.as_ref();
+    let update = Update {
+        alloc,
+        path,
+        tables: found.session.tables(),
+        errors: &found.errors,
+        told,
+        messages: &found.messages,
+        confirmed,
+        writer,
+    };
+    let mut page = Page::new(&mut *out, false);
+    let new = update.put(&mut page);
+    page.checked()?;
+    new
+}
+
+/// Writes that a state has no message, with an input for it, or that no text is found for one.
+fn put_silent<E: Write>(
+    update: Update<'_>,
+    errors: &mut E,
+    state: usize,
+    confirmed: &Confirmed,
+) -> io::Result<()> {
+    let path = update.path;
+    write!(errors, "{path}: state {state} has no message")?;
+    if let Some(line) = update.line(confirmed)? {
+        errors.write_all(b": ")?;
+        errors.write_all(&line)?;
+    } else {
+        let grammar = grammar_of(update.tables);
+        let names = Names(grammar, &confirmed.tokens);
+        let last = Name(grammar, confirmed.last);
+        write!(errors, ", and no text is found for{names} {last}")?;
+    }
+    writeln!(errors)
 }
 
 /// A number and what is counted.
@@ -107,22 +201,48 @@ fn put_inputs<W: Write>(out: &mut W, path: &str, messages: &Messages) -> io::Res
     put_count(out, messages.claims.all.len(), "input", "inputs")
 }
 
-/// Lists the errors of a grammar, as a file of messages that has no message yet.
+/// Lists the errors of a language, as a file of messages that has no message yet.
 fn list<W: Write, E: Write>(
     alloc: Global,
     asked: Asked<'_>,
-    opened: Opened,
+    language: Language,
     out: &mut W,
     errors: &mut E,
 ) -> io::Result<u8> {
-    let path = asked.grammar.path;
-    match Messages::read(alloc, &opened.tables, path, Vec::new(alloc), errors)? {
+    let path = asked.files.grammar.path;
+    let inputs = Inputs::of_language(&language);
+    let (named, nothing) = ((path, false), Vec::new(alloc));
+    match Messages::read(alloc, inputs, named, nothing, errors)? {
         Ok(messages) => {
-            let mut found = Found::new(alloc, opened, messages)?;
+            let mut found = Found::new(alloc, language, messages)?;
             found.put(alloc, path, out).map(|_| 0)
         }
         Err(status) => Ok(status),
     }
+}
+
+/// Writes what an update of a file comes to: its inputs, those that are wrong, and the states that
+/// are new.
+fn put_renewed<W: Write>(
+    out: &mut W,
+    path: &str,
+    messages: &Messages,
+    wrong: usize,
+    new: New,
+) -> io::Result<()> {
+    put_inputs(out, path, messages)?;
+    write!(out, ", {wrong} wrong; ")?;
+    put_count(out, new.blocks, "new state", "new states")?;
+    if new.untold > 0 {
+        write!(out, "; ")?;
+        put_count(
+            out,
+            new.untold,
+            "state without a text",
+            "states without a text",
+        )?;
+    }
+    writeln!(out)
 }
 
 /// Writes a file anew that is read, and gives the exit status.
@@ -130,23 +250,20 @@ fn rewrite<F: Files + AllocGlobal, W: Write, E: Write>(
     rt: &F,
     asked: Asked<'_>,
     file: Limited<'_>,
-    (opened, messages): (Opened, Messages),
+    (language, messages): (Language, Messages),
     out: &mut W,
     errors: &mut E,
 ) -> io::Result<u8> {
     let alloc = rt.alloc();
-    let wrong = messages.put_wrong(&opened.tables, file.path, errors)?;
-    let mut found = Found::new(alloc, opened, messages)?;
+    let wrong = messages.put_wrong(&language.opened.tables, file.path, errors)?;
+    let mut found = Found::new(alloc, language, messages)?;
     let mut text = Vec::new(alloc);
-    let new = found.put(alloc, asked.grammar.path, &mut text)?;
+    let new = found.put(alloc, asked.files.grammar.path, &mut text)?;
     let status = put_output(rt, Some(file.path), &text, out, errors)?;
     if status > 0 {
         return Ok(status);
     }
-    put_inputs(out, file.path, &found.messages)?;
-    write!(out, ", {wrong} wrong; ")?;
-    put_count(out, new, "new state", "new states")?;
-    writeln!(out)?;
+    put_renewed(out, file.path, &found.messages, wrong, new)?;
     Ok(if wrong > 0 { 1 } else { 0 })
 }
 
@@ -155,7 +272,7 @@ fn renew<F: Files + AllocGlobal, W: Write, E: Write>(
     rt: &F,
     asked: Asked<'_>,
     file: Limited<'_>,
-    opened: Opened,
+    language: Language,
     out: &mut W,
     errors: &mut E,
 ) -> io::Result<u8> {
@@ -166,8 +283,10 @@ fn renew<F: Files + AllocGlobal, W: Write, E: Write>(
         },
         Err(_) => Vec::new(rt.alloc()),
     };
-    match Messages::read(rt.alloc(), &opened.tables, file.path, bytes, errors)? {
-        Ok(messages) => rewrite(rt, asked, file, (opened, messages), out, errors),
+    let inputs = Inputs::of_language(&language);
+    let named = (file.path, false);
+    match Messages::read(rt.alloc(), inputs, named, bytes, errors)? {
+        Ok(messages) => rewrite(rt, asked, file, (language, messages), out, errors),
         Err(status) => Ok(status),
     }
 }
@@ -176,11 +295,11 @@ fn renew<F: Files + AllocGlobal, W: Write, E: Write>(
 fn complete<E: Write>(
     alloc: Global,
     file: Limited<'_>,
-    (opened, messages): (Opened, Messages),
+    (language, messages): (Language, Messages),
     errors: &mut E,
 ) -> io::Result<u8> {
-    let found = Found::new(alloc, opened, messages)?;
-    match found.put_missing(file.path, errors)? {
+    let found = Found::new(alloc, language, messages)?;
+    match found.put_missing(alloc, file.path, errors)? {
         0 => Ok(0),
         _ => Ok(1),
     }
@@ -197,11 +316,11 @@ fn put_checked<W: Write>(out: &mut W, line: &[u8], end: &str) -> io::Result<u8> 
 fn data_asked(
     alloc: Global,
     asked: Asked<'_>,
-    tables: &Tables,
+    (tables, spelled): (&Tables, &Spelled),
     messages: &Messages,
 ) -> io::Result<Vec<u8>> {
     match asked.table {
-        Some(_) => data_of(alloc, tables, messages),
+        Some(_) => data_of(alloc, tables, spelled, messages),
         None => Ok(Vec::new(alloc)),
     }
 }
@@ -220,25 +339,26 @@ fn put_data<F: Files + AllocGlobal, W: Write, E: Write>(
     }
 }
 
-/// Says what is wrong with a file, or that nothing is, and gives the exit status. Where nothing is,
-/// the messages are written as data first, if that is asked for.
+/// Says what is wrong with a file, or that nothing is, and gives the exit status. Where nothing
+/// is, the messages are written as data first, if that is asked for.
 fn check<F: Files + AllocGlobal, W: Write, E: Write>(
     rt: &F,
     asked: Asked<'_>,
     file: Limited<'_>,
-    opened: Opened,
+    language: Language,
     out: &mut W,
     errors: &mut E,
 ) -> io::Result<u8> {
-    let messages = match Messages::open(rt, &opened.tables, file, errors)? {
+    let messages = match Messages::open(rt, Inputs::of_language(&language), file, errors)? {
         Ok(messages) => messages,
         Err(status) => return Ok(status),
     };
     let mut line = Vec::new(rt.alloc());
     put_inputs(&mut line, file.path, &messages)?;
-    let data = data_asked(rt.alloc(), asked, &opened.tables, &messages)?;
+    let told = (&language.opened.tables, &language.spelled);
+    let data = data_asked(rt.alloc(), asked, told, &messages)?;
     if asked.complete {
-        let status = complete(rt.alloc(), file, (opened, messages), errors)?;
+        let status = complete(rt.alloc(), file, (language, messages), errors)?;
         if status > 0 {
             return Ok(status);
         }
@@ -264,17 +384,20 @@ fn refused<F: Files + AllocGlobal, E: Write>(
     asked: Asked<'_>,
     errors: &mut E,
 ) -> io::Result<Option<u8>> {
-    let (output, grammar) = (output_of(asked), asked.grammar.path);
+    let (output, grammar) = (output_of(asked), asked.files.grammar.path);
+    let spec = asked.files.spec.unwrap_or(grammar);
     match asked.messages {
-        Some(file) if !asked.update => { refused_output(rt, output, &[grammar, file.path], errors) }
-        _ => refused_output(rt, output, &[grammar], errors),
+        Some(file) if !asked.update => {
+            refused_output(rt, output, &[grammar, spec, file.path], errors)
+        }
+        _ => refused_output(rt, output, &[grammar, spec], errors),
     }
 }
 
-/// Writes what is asked for, and gives the exit status: 0; 1 where the grammar or the file of
-/// messages is refused, one of its inputs is wrong, or a state has no message and is to have one; 2
-/// where a file that is read would be written over; 3 where a file can't be read or written, memory
-/// runs out, or there are too many states.
+/// Writes what is asked for, and gives the exit status: 0; 1 where the grammar, the SPEC or the
+/// file of messages is refused, one of its inputs is wrong, or a state has no message and is to
+/// have one; 2 where a file that is read would be written over; 3 where a file can't be read or
+/// written, memory runs out, or there are too many states.
 pub fn run_errors<F: Files + AllocGlobal, W: Write, E: Write>(
     rt: &F,
     asked: Asked<'_>,
@@ -284,13 +407,13 @@ pub fn run_errors<F: Files + AllocGlobal, W: Write, E: Write>(
     if let Some(status) = refused(rt, asked, errors)? {
         return Ok(status);
     }
-    let opened = match open_file(rt, asked.grammar, errors)? {
-        Ok(opened) => opened,
+    let language = match Language::open(rt, asked.files, errors)? {
+        Ok(language) => language,
         Err(status) => return Ok(status),
     };
     match asked.messages {
-        None => list(rt.alloc(), asked, opened, out, errors),
-        Some(file) if asked.update => renew(rt, asked, file, opened, out, errors),
-        Some(file) => check(rt, asked, file, opened, out, errors),
+        None => list(rt.alloc(), asked, language, out, errors),
+        Some(file) if asked.update => renew(rt, asked, file, language, out, errors),
+        Some(file) => check(rt, asked, file, language, out, errors),
     }
 }

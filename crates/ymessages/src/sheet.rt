@@ -49,14 +49,29 @@ fn put_symbols<W: Write>(page: &mut Page<W>, grammar: &Grammar, title: &str, sym
     page.end();
 }
 
-/// Writes an input: its tokens, the last one too.
-pub fn put_input<W: Write>(page: &mut Page<W>, grammar: &Grammar, tokens: &[Sym], last: Sym) {
+/// Writes the tokens of an input as a list, the last one too.
+fn put_list<W: Write>(
+    page: &mut Page<W>,
+    grammar: &Grammar,
+    title: &str,
+    (tokens, last): (&[Sym], Sym),
+) {
+    page.put(title);
     for token in tokens {
-        page.put(name_of(grammar, *token));
-        page.put(" ");
+        put_word(page, name_of(grammar, *token));
     }
-    page.put(name_of(grammar, last));
+    put_word(page, name_of(grammar, last));
     page.end();
+}
+
+/// Writes the tokens of a text.
+pub fn put_tokens<W: Write>(page: &mut Page<W>, grammar: &Grammar, list: (&[Sym], Sym)) {
+    put_list(page, grammar, "## tokens  ", list);
+}
+
+/// Writes the tokens for which no text is found.
+pub fn put_no_text<W: Write>(page: &mut Page<W>, grammar: &Grammar, list: (&[Sym], Sym)) {
+    put_list(page, grammar, "## no text ", list);
 }
 
 /// Whether an item has begun.
@@ -100,14 +115,24 @@ pub fn put_state<W: Write>(
     }
 }
 
-/// Writes what a file of messages begins with.
-pub fn put_head<W: Write>(page: &mut Page<W>, path: &str, tables: &Tables, errors: &Errors) {
+/// Writes what a file of messages begins with, whose inputs are texts or tokens.
+pub fn put_head<W: Write>(
+    page: &mut Page<W>,
+    path: &str,
+    tables: &Tables,
+    errors: &Errors,
+    texts: bool,
+) {
     let (count, states) = (errors.count(), states_of(tables));
+    let inputs = if texts { "texts" } else { "inputs" };
     let _ = writeln!(
         page,
         "## {path}: an error can be detected in {count} of {states} states."
     );
-    page.line("## A block has inputs whose last token is the error, an empty line, a message.");
+    let _ = writeln!(
+        page,
+        "## A block has {inputs} whose last token is the error, an empty line, a message."
+    );
     page.line("## In a message $0 is that token, $1, $2 .. are the entries of the stack from the");
     page.line("## top, $expected the tokens that could come. Lines with ## are written anew.");
     page.end();

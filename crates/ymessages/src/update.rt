@@ -3,14 +3,17 @@
 
 use crate::claims::Claim;
 use crate::file::{Part, Span, is_comment};
+use crate::inputs::Inputs;
 use crate::messages::Messages;
 use crate::refusal::put_came;
-use crate::sheet::{put_head, put_input, put_state, put_tail};
+use crate::sheet::{put_head, put_no_text, put_state, put_tail, put_tokens};
+use crate::written::line_of;
 use std::alloc::{AllocError, Global};
 use std::io::{self, Write};
 use yerrors::confirm::{Confirmed, Left, confirm};
 use yerrors::errors::Errors;
 use yexplain::reads::grammar_of;
+use ylex::writer::Writer;
 use yparse::Session;
 use ysymbols::Sym;
 use ytables::Tables;
@@ -22,16 +25,31 @@ const FIRST: &[u8] = b"unexpected $0, expected $expected";
 /// What a file is written anew from.
 #[derive(Clone, Copy)]
 pub struct Update<'a> {
+    /// What allocates.
+    pub alloc: Global,
     /// The path of the grammar file.
     pub path: &'a str,
     /// The tables.
     pub tables: &'a Tables,
     /// The errors of their states.
     pub errors: &'a Errors,
+    /// Those to be written rather than others, where there are some.
+    pub told: Option<&'a Errors>,
     /// The file.
     pub messages: &'a Messages,
     /// What sessions have of its inputs.
     pub confirmed: &'a [Option<Confirmed>],
+    /// What writes inputs as texts; without it, they are tokens.
+    pub writer: Option<&'a Writer>,
+}
+
+/// The states that no input of a file claims.
+#[derive(Clone, Copy, Drop)]
+pub struct New {
+    /// How many got a block.
+    pub blocks: usize,
+    /// For how many no text is found.
+    pub untold: usize,
 }
 
 /// A copy of some tokens.
@@ -50,7 +68,7 @@ fn confirmed_of(
 ) -> io::Result<Option<Confirmed>> {
     match claim.state() {
         Some(state) => {
-            let (tokens, last) = claim.list();
+            let (tokens, last) = claim.input.list();
             let list = (copied(alloc, tokens)?, last);
             confirm(alloc, session, list, state, left)
         }
@@ -73,6 +91,11 @@ pub fn confirm_all(
     Ok(all)
 }
 
+/// The list of a state, where it has one.
+fn list_in(errors: &Errors, state: usize) -> Option<&Confirmed> {
+    errors.outcomes.get(state)?.list()
+}
+
 impl<'a> Update<'a> {
     /// Writes bytes of the file as a line.
     fn put_line<W: Write>(self, page: &mut Page<W>, line: Span) {
@@ -82,6 +105,9 @@ impl<'a> Update<'a> {
 
     /// Writes the comments of the input of a number.
     fn put_claim<W: Write>(self, page: &mut Page<W>, number: usize, claim: &Claim) {
+        if self.writer.is_some() {
+            put_tokens(page, grammar_of(self.tables), claim.input.list());
+        }
         let confirmed = self.confirmed.get(number);
         match (claim.state(), confirmed) {
             (Some(state), Some(Some(confirmed))) => {
@@ -147,35 +173,84 @@ impl<'a> Update<'a> {
         if messages.claims.owner(state).is_some() {
             return None;
         }
-        errors.outcomes.get(state)?.list()
+        let list = list_in(errors, state);
+        self.told.and_then(|told| list_in(told, state)).or(list)
+    }
+
+    /// The line of the input of a list; `None` where it is to be a text, and none is found.
+    pub fn line(self, confirmed: &Confirmed) -> io::Result<Option<Vec<u8>>> {
+        let inputs = Inputs {
+            tables: self.tables,
+            lexer: self.writer.map(|writer| writer.lexer()),
+        };
+        let list = (confirmed.tokens.as_slice(), confirmed.last);
+        line_of(self.alloc, inputs, self.writer, list)
+    }
+
+    /// Writes a block with the input of this line for a state.
+    fn put_block<W: Write>(
+        self,
+        page: &mut Page<W>,
+        line: &[u8],
+        state: usize,
+        confirmed: &Confirmed,
+    ) {
+        let _ = page.write_all(line);
+        page.end();
+        if self.writer.is_some() {
+            let list = (confirmed.tokens.as_slice(), confirmed.last);
+            put_tokens(page, grammar_of(self.tables), list);
+        }
+        put_state(page, self.tables, state, confirmed);
+        self.put_message(page, FIRST);
+        page.end();
+    }
+
+    /// Writes comments alone for a state for whose list no text is found.
+    fn put_untold<W: Write>(self, page: &mut Page<W>, state: usize, confirmed: &Confirmed) {
+        let list = (confirmed.tokens.as_slice(), confirmed.last);
+        put_no_text(page, grammar_of(self.tables), list);
+        put_state(page, self.tables, state, confirmed);
+        page.end();
+    }
+
+    /// Writes what there is of a state that is new, and says whether that is a block.
+    fn put_state<W: Write>(
+        self,
+        page: &mut Page<W>,
+        state: usize,
+        confirmed: &Confirmed,
+    ) -> io::Result<bool> {
+        let line = self.line(confirmed)?;
+        match &line {
+            Some(line) => self.put_block(page, line, state, confirmed),
+            None => self.put_untold(page, state, confirmed),
+        }
+        Ok(line.is_some())
     }
 
     /// Writes a block for each state that is new.
-    fn put_new<W: Write>(self, page: &mut Page<W>) {
+    fn put_new<W: Write>(self, page: &mut Page<W>) -> io::Result<New> {
+        let (mut blocks, mut untold): (usize, usize) = (0, 0);
         for state in 0..self.errors.outcomes.len() {
             if let Some(confirmed) = self.new_list(state) {
-                let grammar = grammar_of(self.tables);
-                put_input(page, grammar, &confirmed.tokens, confirmed.last);
-                put_state(page, self.tables, state, confirmed);
-                self.put_message(page, FIRST);
-                page.end();
+                if self.put_state(page, state, confirmed)? {
+                    blocks = blocks.saturating_add(1);
+                } else {
+                    untold = untold.saturating_add(1);
+                }
             }
         }
+        Ok(New { blocks, untold })
     }
 
-    /// How many states are new.
-    pub fn count_new(self) -> usize {
-        let states = 0..self.errors.outcomes.len();
-        states
-            .filter(|state| self.new_list(*state).is_some())
-            .count()
-    }
-
-    /// Writes the file.
-    pub fn put<W: Write>(self, page: &mut Page<W>) {
-        put_head(page, self.path, self.tables, self.errors);
+    /// Writes the file, and says what states are new.
+    pub fn put<W: Write>(self, page: &mut Page<W>) -> io::Result<New> {
+        let texts = self.writer.is_some();
+        put_head(page, self.path, self.tables, self.errors, texts);
         self.put_parts(page);
-        self.put_new(page);
+        let new = self.put_new(page)?;
         put_tail(page, self.errors);
+        Ok(new)
     }
 }

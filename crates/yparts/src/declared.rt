@@ -8,18 +8,9 @@ use crate::parts::{Block, Care, Deed, Piece, Taker, Target, Whose};
 use crate::refusal::{Refusal, Trouble};
 use crate::words::{Word, target_of, word_of};
 use std::alloc::AllocError;
-use yforeign::directive::{Directive, is_symbol, is_word};
+use yforeign::directive::{is_symbol, is_word};
 use yforeign::lexeme::{Kind, Lexeme};
 use yforeign::survey::{inside, is_macro, is_text};
-
-/// A list of symbols while it is read.
-#[derive(Clone, Copy)]
-struct Listing<'a> {
-    directive: Directive,
-    tag: Option<&'a [u8]>,
-    /// The token that a string would stand for.
-    token: Option<Lexeme>,
-}
 
 /// The text of a piece between its braces.
 fn between<'a>(piece: Piece<'a>) -> Piece<'a> {
@@ -216,38 +207,15 @@ impl<'a> Gather<'a, '_> {
         Ok(())
     }
 
-    /// Takes in a lexeme of a list.
-    fn take_listed(
-        &mut self,
-        listing: &mut Listing<'a>,
-        rest: &[Lexeme],
-        at: usize,
-        lexeme: &Lexeme,
-    ) -> Result<(), AllocError> {
-        match lexeme.kind {
-            Kind::Tag => listing.tag = Some(inner(lexeme.text(self.source)).trim_ascii()),
-            kind if is_text(kind) && listing.directive.names_tokens() => match listing.token {
-                Some(token) => self.label(&token, lexeme)?,
-                None => self.see_symbol(lexeme, listing.tag)?,
-            },
-            kind if is_symbol(kind) && !is_macro(rest, at) => {
-                listing.token = Some(*lexeme);
-                self.see_symbol(lexeme, listing.tag)?;
-            }
-            _ => {}
-        }
-        Ok(())
-    }
-
-    /// Takes in a list of symbols.
-    pub fn take_list(&mut self, directive: Directive, rest: &[Lexeme]) -> Result<(), AllocError> {
-        let mut listing = Listing {
-            directive,
-            tag: None,
-            token: None,
-        };
+    /// Takes in a list of symbols: each has the tag before it.
+    pub fn take_list(&mut self, rest: &[Lexeme]) -> Result<(), AllocError> {
+        let mut tag = None;
         for (at, lexeme) in rest.iter().enumerate() {
-            self.take_listed(&mut listing, rest, at, lexeme)?;
+            if lexeme.kind == Kind::Tag {
+                tag = Some(inner(lexeme.text(self.source)).trim_ascii());
+            } else if is_symbol(lexeme.kind) && !is_macro(rest, at) {
+                self.see_symbol(lexeme, tag)?;
+            }
         }
         Ok(())
     }

@@ -26,8 +26,8 @@ impl<'a> Gather<'a, '_> {
         let word = word.text(self.source);
         self.see_word(word);
         match directive {
-            Directive::Type | Directive::Nterm => self.take_list(directive, rest)?,
-            directive if directive.lists_tokens() => self.take_list(directive, rest)?,
+            Directive::Type | Directive::Nterm => self.take_list(rest)?,
+            directive if directive.lists_tokens() => self.take_list(rest)?,
             Directive::Union => self.take_union(rest)?,
             _ => self.take_aside(word, rest)?,
         }
@@ -85,6 +85,7 @@ impl<'a> Gather<'a, '_> {
         for group in groups {
             self.take(group)?;
         }
+        self.label_all()?;
         let actions = mem::replace(&mut self.actions, Vec::new(self.alloc));
         self.parts.set_actions(self.grammar, &actions)?;
         self.tag_actions();

@@ -83,7 +83,7 @@ impl<'a, 'b> Gather<'a, 'b> {
         if let Some(looks) = symbol.and_then(|symbol| self.parts.looks.get_mut(symbol)) {
             looks.tag = tag.or(looks.tag);
             looks.is_made = looks.is_made || is_made;
-            if is_made || is_literal {
+            if is_literal {
                 looks.label = Some(text);
             }
         }
@@ -99,12 +99,15 @@ impl<'a, 'b> Gather<'a, 'b> {
         Ok(())
     }
 
-    /// Notes the string that stands for a token.
-    pub fn label(&mut self, token: &Lexeme, text: &Lexeme) -> Result<(), AllocError> {
-        let label = text.text(self.source);
-        let symbol = self.symbol(token)?;
-        if let Some(looks) = symbol.and_then(|symbol| self.parts.looks.get_mut(symbol)) {
-            looks.label = Some(label);
+    /// Notes the strings that the file has for symbols.
+    pub fn label_all(&mut self) -> Result<(), AllocError> {
+        let source = self.source;
+        let spelling = &self.imported.spelling;
+        let strings = spelling.strings(self.alloc, source, self.grammar)?;
+        for (looks, string) in self.parts.looks.iter_mut().zip(&strings) {
+            if let Some(string) = string {
+                looks.label = Some(string.text(source));
+            }
         }
         Ok(())
     }

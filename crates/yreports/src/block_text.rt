@@ -2,6 +2,7 @@
 
 use crate::blocks::{Block, Class, Entry};
 use crate::kinds::put_states;
+use crate::numbers::Ranges;
 use std::io::Write;
 use yexplain::lines::Lines;
 use yexplain::reads::{grammar_of, name_of};
@@ -24,31 +25,18 @@ pub struct BlockText<'a> {
     pub lines: &'a Lines,
 }
 
-/// The number of a conflict in the report, where there is one.
-fn number_of(entry: Option<&Entry>) -> Option<usize> {
-    entry.map(|entry| entry.number.saturating_add(1))
-}
-
-/// Writes the numbers of conflicts, those that follow one another as a range:
-/// `conflicts 2 to 4, 7`.
-fn put_numbers<W: Write>(page: &mut Page<W>, entries: &[Entry]) {
-    let many = entries.len() > 1;
-    page.put(if many { "conflicts" } else { "conflict" });
-    let mut front = " ";
-    let mut before: Option<usize> = None;
-    for (place, entry) in entries.iter().enumerate() {
-        let number = entry.number.saturating_add(1);
-        let follows = before == Some(entry.number);
-        let next = number_of(entries.get(place.saturating_add(1)));
-        let goes_on = next == Some(number.saturating_add(1));
-        if !follows {
-            let _ = write!(page, "{front}{number}");
-            front = ", ";
-        } else if !goes_on {
-            let _ = write!(page, " to {number}");
-        }
-        before = Some(number);
+/// Writes which other conflicts a hint settles.
+fn put_also<W: Write>(page: &mut Page<W>, class: &Class) {
+    if class.also.is_empty() {
+        return;
     }
+    page.put("  In a line of %left after all others, that also settles ");
+    let mut ranges = Ranges::begin(page, class.also.len());
+    for number in &class.also {
+        ranges.add(page, *number);
+    }
+    ranges.end(page);
+    page.line(".");
 }
 
 impl BlockText<'_> {
@@ -73,7 +61,11 @@ impl BlockText<'_> {
         page.put(words.0);
         page.count(entries.len(), "other token", "other tokens");
         page.put(words.1);
-        put_numbers(page, entries);
+        let mut ranges = Ranges::begin(page, entries.len());
+        for entry in entries {
+            ranges.add(page, entry.number);
+        }
+        ranges.end(page);
         page.line(":");
         self.put_tokens(page, entries);
     }
@@ -91,6 +83,7 @@ impl BlockText<'_> {
         let words = ("  Also on ", ", ");
         self.put_others(page, &class.entries, words);
         let _ = page.write_all(&class.reason);
+        put_also(page, class);
     }
 
     /// Writes the first conflict of a block, why it is settled so, and on which tokens it is the
@@ -102,6 +95,7 @@ impl BlockText<'_> {
         let asked = entry.cell(self.tables, self.lines);
         let _ = explain(page, asked);
         if let Some(class) = block.classes.first() {
+            put_also(page, class);
             self.put_same(page, class);
         }
         put_states(page, entry.group);

@@ -36,6 +36,8 @@ pub struct Class {
     pub reason: Vec<u8>,
     /// The text with a mark in place of the token's name.
     marked: Vec<u8>,
+    /// The conflicts, by their numbers, that the hint for the first of these settles beside it.
+    pub also: Vec<usize>,
 }
 
 /// Conflicts of one state between the same rivals.
@@ -129,6 +131,7 @@ impl Class {
             entries: Vec::from_slice(alloc, &[entry])?,
             reason,
             marked,
+            also: Vec::new(alloc),
         })
     }
 

@@ -2,11 +2,14 @@
 //!
 //! `kinds` has the conflicts in short, `blocks` those of one state between the same rivals together
 //! (written by `block_text`), `ambiguity` whole sentences for their rivals (written by
-//! `ambiguity_text`), `causes` what many have in common, found by changes that are tried on all cells
-//! (`tried`) and by tables without a rule that others cover (`covered`), `list_text` a list of tokens
-//! that gets to one, `splitting` what mends one of merged states, and `saving` keeps lists as files.
+//! `ambiguity_text`), `also` what else a hint settles, `leading` the items of a state that lead to
+//! a shift, `numbers` the numbers of conflicts, `causes` what many have in common, found by changes
+//! that are tried on all cells (`tried`) and by tables without a rule that others cover (`covered`),
+//! `list_text` a list of tokens that gets to one, `splitting` what mends one of merged states, and
+//! `saving` keeps lists as files.
 #![tactic(auto)]
 
+mod also;
 mod ambiguity;
 mod ambiguity_text;
 mod block_text;
@@ -15,7 +18,9 @@ mod cause_text;
 mod causes;
 mod covered;
 pub mod kinds;
+mod leading;
 pub mod list_text;
+mod numbers;
 pub mod report;
 pub mod saving;
 mod splitting;

@@ -1,6 +1,7 @@
 //! `ydebug conflicts`: the kinds of conflicts of each state with their rivals, what settled them,
 //! and lists of tokens that get there; then the warnings.
 
+use crate::also::try_hints;
 use crate::ambiguity::{answers_of, put_answers};
 use crate::ambiguity_text::AmbiguityText;
 use crate::block_text::BlockText;
@@ -8,6 +9,7 @@ use crate::blocks::{Block, Blocks, blocks_of};
 use crate::cause_text::CauseText;
 use crate::causes::causes_of;
 use crate::kinds::{put_counts, put_named};
+use crate::leading::put_leading;
 use crate::list_text::{ListText, put_unfound};
 use crate::saving::Folder;
 use crate::splitting::{MOST_SPLITS, split_of};
@@ -96,7 +98,7 @@ impl<W: Write, F: Files + AllocGlobal + Clone + Drop> Report<'_, W, F> {
             let answers = answers_of(self.alloc, &mut seeker, &mut found, &block.first, &finding)?;
             let tables = seeker.session.tables();
             let sources = sources.get(place).map_or(&[][..], Vec::as_slice);
-            self.put_block(tables, block, sources);
+            self.put_block(tables, block, sources)?;
             self.put_finding(tables, block, &finding)?;
             let text = AmbiguityText {
                 grammar: grammar_of(tables),
@@ -121,14 +123,21 @@ impl<W: Write, F: Files + AllocGlobal + Clone + Drop> Report<'_, W, F> {
         }
     }
 
-    /// Writes the conflicts of a block, why they are settled so, and where the token of the first
-    /// one comes from.
-    fn put_block(&mut self, tables: &Tables, block: &Block, sources: &[Source]) {
+    /// Writes the conflicts of a block, why they are settled so, what leads to the shift of the
+    /// first one, and where its token comes from.
+    fn put_block(
+        &mut self,
+        tables: &Tables,
+        block: &Block,
+        sources: &[Source],
+    ) -> Result<(), AllocError> {
         let lines = self.lines;
         let text = BlockText { tables, lines };
         text.put(self.page, block);
         let asked = block.first.cell(tables, lines);
+        put_leading(self.alloc, self.page, asked)?;
         let _ = asked.put_sources(self.page, sources);
+        Ok(())
     }
 
     /// Writes which copy of a nonterminal splits merged states, where one does.
@@ -222,7 +231,7 @@ fn put_lists<'a, W: Write, F: Files + AllocGlobal + Clone + Drop>(
         folder: Folder {
             rt,
             path: asked.save,
-            grammar: asked.grammar,
+            inputs: (asked.grammar, None),
             name: ("conflict-", ""),
             failed: None,
         },
@@ -240,7 +249,8 @@ fn put_lists<'a, W: Write, F: Files + AllocGlobal + Clone + Drop>(
     report.folder.clear()?;
     if found.cells > 0 {
         report.folder.make()?;
-        let blocks = blocks_of(report.alloc, session.tables(), lines, found)?;
+        let mut blocks = blocks_of(report.alloc, session.tables(), lines, found)?;
+        try_hints(report.alloc, session.tables(), lines, found, &mut blocks)?;
         let first = report.put_blocks(session, &blocks)?;
         report.put_rest(session.tables(), found, first, blocks.kinds);
     }

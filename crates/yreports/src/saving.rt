@@ -1,4 +1,4 @@
-//! Lists of tokens kept as tokens files.
+//! Lists of tokens kept as tokens files, or as texts.
 
 use std::alloc::Global;
 use std::fs::{self, DirEntry};
@@ -10,15 +10,16 @@ use yfiles::writing::write_over;
 use ysymbols::{Grammar, Sym};
 use yview::page::Page;
 
-/// A folder for tokens files, where one is wanted.
+/// A folder for lists, where one is wanted.
 #[derive(Drop)]
 pub struct Folder<'a, F> {
     /// What opens files.
     pub rt: &'a F,
     /// The path of the folder.
     pub path: Option<&'a str>,
-    /// The path of the grammar file, which is neither removed nor written over.
-    pub grammar: &'a str,
+    /// The paths of the grammar file and of its SPEC, where there is one, which are neither removed
+    /// nor written over.
+    pub inputs: (&'a str, Option<&'a str>),
     /// What stands before and after the numbers in the names of the files.
     pub name: (&'a str, &'a str),
     /// What couldn't be written; nothing is kept after that.
@@ -79,18 +80,23 @@ fn is_of_list((front, end): (&str, &str), name: &str) -> bool {
     }
 }
 
+/// Whether a path means one of the files that are read.
+fn is_input<F: Files>(rt: &F, (grammar, spec): (&str, Option<&str>), path: &str) -> bool {
+    is_same_file(rt, path, grammar) || spec.map_or(false, |spec| is_same_file(rt, path, spec))
+}
+
 /// Removes a file of a folder, where its name is that of a list, and says whether that was done
 /// where it had to be.
 fn is_cleared<F: Files + Drop>(
     rt: &F,
-    grammar: &str,
+    inputs: (&str, Option<&str>),
     name: (&str, &str),
     entry: io::Result<DirEntry<F, Global>>,
 ) -> io::Result<bool> {
     match entry {
         Ok(entry) if is_of_list(name, entry.file_name()) => {
             let path = entry.path();
-            let is_free = !is_same_file(rt, path.as_str(), grammar);
+            let is_free = !is_input(rt, inputs, path.as_str());
             Ok(is_free && is_written(fs::remove_file(rt, path))?)
         }
         Err(error) if error.kind() == ErrorKind::OutOfMemory => Err(error),
@@ -102,7 +108,7 @@ fn is_cleared<F: Files + Drop>(
 /// there has none.
 fn are_cleared<F: Files + AllocGlobal + Clone + Drop>(
     rt: &F,
-    grammar: &str,
+    inputs: (&str, Option<&str>),
     name: (&str, &str),
     path: &str,
 ) -> io::Result<bool> {
@@ -116,7 +122,7 @@ fn are_cleared<F: Files + AllocGlobal + Clone + Drop>(
     };
     let mut are_cleared = true;
     for entry in entries {
-        are_cleared = is_cleared(rt, grammar, name, entry)? && are_cleared;
+        are_cleared = is_cleared(rt, inputs, name, entry)? && are_cleared;
     }
     Ok(are_cleared)
 }
@@ -128,7 +134,7 @@ impl<F: Files + AllocGlobal + Clone + Drop> Folder<'_, F> {
         let Some(path) = self.path else {
             return Ok(());
         };
-        if !are_cleared(self.rt, self.grammar, self.name, path)? {
+        if !are_cleared(self.rt, self.inputs, self.name, path)? {
             self.failed = Some(String::from_str(self.rt.alloc(), path)?);
         }
         Ok(())
@@ -173,28 +179,25 @@ impl<F: Files + AllocGlobal + Clone + Drop> Folder<'_, F> {
         tokens: &[Sym],
         last: Option<Sym>,
     ) -> io::Result<Option<String>> {
+        let mut text = Vec::new(self.rt.alloc());
+        put_tokens(&mut text, grammar, tokens, last)?;
+        self.store_text(numbers, text.strip_prefix(b" ").unwrap_or(&text))
+    }
+
+    /// Keeps a text likewise.
+    pub fn store_text(
+        &mut self,
+        numbers: (usize, usize),
+        text: &[u8],
+    ) -> io::Result<Option<String>> {
         let (Some(folder), None) = (self.path, &self.failed) else {
             return Ok(None);
         };
         let path = path_of(self.rt.alloc(), folder, self.name, numbers)?;
-        if self.write(&path, grammar, tokens, last)? {
+        if is_written(write_over(self.rt, &path, text))? {
             return Ok(Some(path));
         }
         self.failed = Some(path);
         Ok(None)
-    }
-
-    /// Writes tokens to a file, and says whether that was done.
-    fn write(
-        &self,
-        path: &str,
-        grammar: &Grammar,
-        tokens: &[Sym],
-        last: Option<Sym>,
-    ) -> io::Result<bool> {
-        let alloc: Global = self.rt.alloc();
-        let mut text = Vec::new(alloc);
-        put_tokens(&mut text, grammar, tokens, last)?;
-        is_written(write_over(self.rt, path, text.strip_prefix(b" ").unwrap_or(&text)))
     }
 }

@@ -3,7 +3,7 @@
 use crate::unused::Done;
 use std::alloc::{AllocError, Global};
 use std::io::Write;
-use yexplain::lines::{Lines, Mention};
+use yexplain::lines::{Lines, Mention, Spot};
 use yexplain::reads::{grammar_of, is_reachable, left_of, level_of, set};
 use yexplain::text::{Name, RuleText};
 use ylalr::ERROR;
@@ -16,18 +16,18 @@ use yview::page::Page;
 #[derive(Drop)]
 struct Named {
     /// Where each symbol is named first.
-    first: Vec<Option<usize>>,
+    first: Vec<Option<Spot>>,
     /// Where each stands in a line of precedence.
-    levelled: Vec<Option<usize>>,
+    levelled: Vec<Option<Spot>>,
     /// Which are named in a rule, and which in a body.
     used: Vec<bool>,
     in_body: Vec<bool>,
 }
 
-/// A warning: the line of the file that it is about, where there is one, and what it says.
+/// A warning: the place of the file that it is about, where there is one, and what it says.
 pub struct Warning {
-    /// The line, counted from 1.
-    pub line: Option<usize>,
+    /// The place.
+    pub spot: Option<Spot>,
     /// What it says.
     pub text: String,
 }
@@ -35,7 +35,7 @@ pub struct Warning {
 impl Drop for Warning {
     // A call in each owner, which keeps their proofs short.
     fn drop(self) {
-        let Warning { line: _, text: _ } = self;
+        let Warning { spot: _, text: _ } = self;
     }
 }
 
@@ -63,9 +63,9 @@ impl Named {
     }
 
     fn take(&mut self, mention: Mention) {
-        note_line(&mut self.first, mention);
+        note(&mut self.first, mention);
         match mention.role {
-            Role::Levelled => note_line(&mut self.levelled, mention),
+            Role::Levelled => note(&mut self.levelled, mention),
             Role::Symbol(_) => {
                 set(&mut self.in_body, mention.symbol, true);
                 set(&mut self.used, mention.symbol, true);
@@ -79,36 +79,36 @@ impl Named {
         self.used.get(symbol) == Some(&true)
     }
 
-    fn line(&self, symbol: Sym) -> Option<usize> {
+    fn spot(&self, symbol: Sym) -> Option<Spot> {
         self.first.get(symbol).copied().flatten()
     }
 }
 
-/// Notes the line of a symbol, unless one was noted before.
-fn note_line(lines: &mut [Option<usize>], mention: Mention) {
-    if let Some(line) = lines.get_mut(mention.symbol) {
-        *line = line.or(Some(mention.line));
+/// Notes where a symbol is named, unless a place was noted before.
+fn note(spots: &mut [Option<Spot>], mention: Mention) {
+    if let Some(spot) = spots.get_mut(mention.symbol) {
+        *spot = spot.or(Some(mention.spot));
     }
 }
 
 impl Warner<'_> {
     /// Adds a warning.
-    fn add(&mut self, line: Option<usize>, text: String) -> Result<(), AllocError> {
-        self.found.push(Warning { line, text })?;
+    fn add(&mut self, spot: Option<Spot>, text: String) -> Result<(), AllocError> {
+        self.found.push(Warning { spot, text })?;
         Ok(())
     }
 
     /// Adds a warning about a symbol between two texts.
     fn warn(
         &mut self,
-        line: Option<usize>,
+        spot: Option<Spot>,
         before: &str,
         symbol: Sym,
         after: &str,
     ) -> Result<(), AllocError> {
         let name = Name(self.grammar, symbol);
         let text = format!(in self.alloc; "{before}{name}{after}")?;
-        self.add(line, text)
+        self.add(spot, text)
     }
 
     /// Rules of symbols that can be reached, which are never reduced.
@@ -120,7 +120,7 @@ impl Warner<'_> {
                 let text = format!(in self.alloc;
                     "rule {rule} is never reduced, since it lost every cell:  {shown}"
                 )?;
-                self.add(self.lines.rule(rule), text)?;
+                self.add(self.lines.spot(rule), text)?;
             }
         }
         Ok(())
@@ -137,8 +137,8 @@ impl Warner<'_> {
             let settles = done.by_token.get(token).copied().unwrap_or(true);
             let is_meant = named.is_used(token) && level_of(self.grammar, token).is_some();
             if is_meant && !settles {
-                let line = named.levelled.get(token).copied().flatten();
-                self.warn(line, "the precedence of ", token, " settles nothing")?;
+                let spot = named.levelled.get(token).copied().flatten();
+                self.warn(spot, "the precedence of ", token, " settles nothing")?;
             }
         }
         Ok(())
@@ -155,7 +155,7 @@ impl Warner<'_> {
                     "may settle"
                 };
                 let text = format!(in self.alloc; "the %prec of rule {rule} {may} nothing")?;
-                self.add(self.lines.rule(rule), text)?;
+                self.add(self.lines.spot(rule), text)?;
             }
         }
         Ok(())
@@ -166,8 +166,8 @@ impl Warner<'_> {
         for token in 0..self.grammar.symbols() {
             let is_token = self.grammar.is_token(token) && token > ERROR;
             if is_token && !named.is_used(token) {
-                let line = named.line(token);
-                self.warn(line, "the token ", token, " is declared and used nowhere")?;
+                let spot = named.spot(token);
+                self.warn(spot, "the token ", token, " is declared and used nowhere")?;
             }
         }
         Ok(())
@@ -178,10 +178,10 @@ impl Warner<'_> {
         for symbol in 0..self.grammar.symbols() {
             let is_left = !self.grammar.is_token(symbol);
             let is_in_rules = is_left || named.in_body.get(symbol) == Some(&true);
-            let is_meant = is_in_rules && named.line(symbol).is_some();
+            let spot = named.spot(symbol);
+            let is_meant = is_in_rules && spot.is_some();
             if is_meant && symbol != ERROR && !is_reachable(self.grammar, symbol) {
-                let line = named.line(symbol);
-                self.warn(line, "", symbol, " can't be reached from the start")?;
+                self.warn(spot, "", symbol, " can't be reached from the start")?;
             }
         }
         Ok(())
@@ -216,8 +216,8 @@ pub fn warnings_of(
 /// Writes a warning.
 fn put_warning<W: Write>(page: &mut Page<W>, warning: &Warning) {
     page.put("warning: ");
-    if let Some(line) = warning.line {
-        let _ = write!(page, "line {line}: ");
+    if let Some(spot) = warning.spot {
+        let _ = write!(page, "line {}: ", spot.line);
     }
     page.line(&warning.text);
 }

@@ -112,7 +112,7 @@ fn put_open<F: Files + AllocGlobal, W: Write, E: Write>(
     out: &mut W,
     errors: &mut E,
 ) -> io::Result<u8> {
-    let GrammarText { bytes, opened } = text;
+    let GrammarText { bytes, opened, .. } = text;
     let marks = marks_of(rt.alloc(), bytes)?;
     match named(rt.alloc(), bytes, &marks, grammar_of(&opened.tables)) {
         Ok(names) => put_named(rt, asked, opened, &names, out, errors),

@@ -4,6 +4,7 @@ use indexmap::IndexSet;
 use std::alloc::{AllocError, Global};
 use yinput::grammars::used_in;
 use ylalr::ERROR;
+use ylex::writer::Writer;
 use ysymbols::{Grammar, Sym};
 
 /// The most places at which a sentence is changed in one way.
@@ -24,7 +25,7 @@ pub enum Change {
 #[derive(Drop)]
 pub struct Near {
     alloc: Global,
-    /// The tokens of the grammar's rules, but for `error`.
+    /// The tokens of the grammar's rules, but for `error`, and those that no text has.
     inputs: Vec<Sym>,
     /// How many of them were taken, one after the other, over and over.
     turn: usize,
@@ -43,12 +44,22 @@ fn place_in(count: usize, part: usize) -> Option<usize> {
     Some(part.saturating_mul(last).checked_div(steps).unwrap_or(0))
 }
 
+/// Whether an input can have a token; with a writer, a text.
+fn is_given(writer: Option<&Writer>, token: Sym) -> bool {
+    writer.map_or(true, |writer| writer.lexer().gives(token))
+}
+
 impl Near {
-    /// What changes sentences of a grammar.
-    pub fn new(alloc: Global, grammar: &Grammar) -> Result<Near, AllocError> {
+    /// What changes sentences of a grammar; with a writer, by tokens that a text can have.
+    pub fn new(
+        alloc: Global,
+        grammar: &Grammar,
+        writer: Option<&Writer>,
+    ) -> Result<Near, AllocError> {
         let (mut inputs, marks) = (Vec::new(alloc), used_in(alloc, grammar)?);
         for (symbol, used) in marks.iter().enumerate() {
-            if *used && grammar.is_token(symbol) && symbol > ERROR {
+            let is_input = *used && grammar.is_token(symbol) && symbol > ERROR;
+            if is_input && is_given(writer, symbol) {
                 inputs.push(symbol)?;
             }
         }

@@ -15,7 +15,8 @@ use ycover::cells::Cells;
 use ycover::elements::{Elements, Kind};
 use yexplain::reads::{grammar_of, set};
 use yfaults::opening::Opened;
-use yinput::grammars::{GrammarFile, open_file};
+use yinput::language::{Language, LanguageFiles};
+use ylex::writer::Writer;
 use yreports::report::put_failed;
 use yreports::saving::Folder;
 use ytables::Tables;
@@ -34,15 +35,15 @@ pub struct Drawn {
 /// What is asked for: sentences of a grammar.
 #[derive(Clone, Copy)]
 pub struct Asked<'a> {
-    /// The grammar file.
-    pub grammar: GrammarFile<'a>,
+    /// The files of their language: with a SPEC they are written as texts.
+    pub files: LanguageFiles<'a>,
     /// What they are to use.
     pub kind: Kind,
     /// Those that are drawn, where these are wanted instead.
     pub drawn: Option<Drawn>,
     /// Whether lists that are near to them are wanted too.
     pub near: bool,
-    /// The folder in which each list becomes a tokens file.
+    /// The folder in which each list becomes a tokens file, or a text.
     pub save: Option<&'a str>,
     /// Whether an element that isn't found, or a sentence that is refused, makes the status 1.
     pub strict: bool,
@@ -60,22 +61,31 @@ impl Asked<'_> {
     }
 
     /// What changes sentences, where that is wanted.
-    fn near_in(self, alloc: Global, tables: &Tables) -> Result<Option<Near>, AllocError> {
+    fn near_in(
+        self,
+        alloc: Global,
+        tables: &Tables,
+        writer: Option<&Writer>,
+    ) -> Result<Option<Near>, AllocError> {
         if self.near {
-            Near::new(alloc, grammar_of(tables)).map(Some)
+            Near::new(alloc, grammar_of(tables), writer).map(Some)
         } else {
             Ok(None)
         }
     }
 }
 
-/// A folder for tokens files whose names begin so.
+/// A folder for lists, in which the names of files begin so.
 fn folder_of<'a, F>(rt: &'a F, asked: Asked<'a>, front: &'a str) -> Folder<'a, F> {
+    let ending = match asked.files.spec {
+        Some(_) => ".txt",
+        None => ".tokens",
+    };
     Folder {
         rt,
         path: asked.save,
-        grammar: asked.grammar.path,
-        name: (front, ".tokens"),
+        inputs: (asked.files.grammar.path, asked.files.spec),
+        name: (front, ending),
         failed: None,
     }
 }
@@ -212,7 +222,7 @@ fn put_sheet<'a, W: Write, E: Write, F: Files + AllocGlobal + Clone + Drop>(
     elements: Elements<'a>,
     out: &'a mut W,
     errors: &mut E,
-    chosen: Option<&Chosen>,
+    (chosen, writer): (Option<&Chosen>, Option<&'a Writer>),
 ) -> io::Result<u8> {
     let mut sheet = Sheet {
         alloc: rt.alloc(),
@@ -220,7 +230,8 @@ fn put_sheet<'a, W: Write, E: Write, F: Files + AllocGlobal + Clone + Drop>(
         elements,
         folder: folder_of(rt, asked, asked.front()),
         near_folder: folder_of(rt, asked, "near-"),
-        near: asked.near_in(rt.alloc(), elements.tables)?,
+        writer,
+        near: asked.near_in(rt.alloc(), elements.tables, writer)?,
         changed: 0,
         accepted: 0,
     };
@@ -235,14 +246,15 @@ fn put_sheet<'a, W: Write, E: Write, F: Files + AllocGlobal + Clone + Drop>(
     put_failed(errors, failed.or(sheet.near_folder.failed.as_ref()), status)
 }
 
-/// Writes sentences of a grammar that is open, and gives the exit status.
+/// Writes sentences of a language that is open, and gives the exit status.
 fn put_open<F: Files + AllocGlobal + Clone + Drop, W: Write, E: Write>(
     rt: &F,
     asked: Asked<'_>,
-    opened: Opened,
+    language: Language,
     out: &mut W,
     errors: &mut E,
 ) -> io::Result<u8> {
+    let (opened, writer) = language.into_writing(rt.alloc())?;
     let Opened { tables, lines } = opened;
     let mut session = empty_session(rt.alloc(), tables);
     let chosen = match asked.drawn {
@@ -255,13 +267,14 @@ fn put_open<F: Files + AllocGlobal + Clone + Drop, W: Write, E: Write>(
         lines: &lines,
         cells: &cells,
     };
-    put_sheet(rt, asked, elements, &mut *out, errors, chosen.as_ref())
+    let shown = (chosen.as_ref(), writer.as_ref());
+    put_sheet(rt, asked, elements, &mut *out, errors, shown)
 }
 
-/// Writes what is asked for, and gives the exit status: 0; 1 where the grammar is refused, or where
-/// something isn't found or accepted and that is to count; 2 where longer sentences are asked for
-/// than are drawn; 3 where a file can't be read or written, memory runs out, or there are too many
-/// states.
+/// Writes what is asked for, and gives the exit status: 0; 1 where the grammar or the SPEC is
+/// refused, or where something isn't found or accepted and that is to count; 2 where longer
+/// sentences are asked for than are drawn; 3 where a file can't be read or written, memory runs
+/// out, or there are too many states.
 pub fn run_sentences<F: Files + AllocGlobal + Clone + Drop, W: Write, E: Write>(
     rt: &F,
     asked: Asked<'_>,
@@ -272,8 +285,8 @@ pub fn run_sentences<F: Files + AllocGlobal + Clone + Drop, W: Write, E: Write>(
         writeln!(errors, "ydebug: --length goes up to {MOST_TOKENS}")?;
         return Ok(2);
     }
-    match open_file(rt, asked.grammar, errors)? {
-        Ok(opened) => put_open(rt, asked, opened, out, errors),
+    match Language::open(rt, asked.files, errors)? {
+        Ok(language) => put_open(rt, asked, language, out, errors),
         Err(status) => Ok(status),
     }
 }

@@ -1,5 +1,6 @@
-//! Sentences as they are written: each stands in a line of its own, as a tokens file has it, and
-//! all other lines begin with `#`.
+//! Sentences as they are written: each stands in a line of its own, as a tokens file has it or as
+//! a text, and all other lines begin with `#`. A text of several lines, or one that begins with
+//! `#`, stands after a line that says how many they are.
 
 use crate::choice::Missing;
 use crate::near::{Change, Near};
@@ -9,9 +10,11 @@ use std::io::{self, Write};
 use std::rt::Files;
 use ycounterexample::budget::ALL_STEPS;
 use ycover::elements::{Elements, Kind};
+use yexplain::lines::newlines;
 use yexplain::reads::grammar_of;
-use yexplain::text::Name;
+use yexplain::text::{Name, Names};
 use yinput::verdict::{Verdict, verdict_on};
+use ylex::writer::Writer;
 use yparse::Tokens;
 use yreports::saving::Folder;
 use ysymbols::{Grammar, Sym};
@@ -32,12 +35,55 @@ pub struct Sheet<'a, W, F> {
     pub folder: Folder<'a, F>,
     /// The folder for lists that are near to them.
     pub near_folder: Folder<'a, F>,
+    /// What writes lists as texts, where that is wanted.
+    pub writer: Option<&'a Writer>,
     /// What changes sentences, where that is wanted.
     pub near: Option<Near>,
     /// How many lists that are near were written.
     pub changed: usize,
     /// How many of them are accepted.
     pub accepted: usize,
+}
+
+/// A list as it is written.
+#[derive(Drop)]
+enum Shown {
+    /// By its tokens.
+    Tokens,
+    /// As this text.
+    Text(Vec<u8>),
+    /// As a comment: no text is found.
+    Untold,
+}
+
+/// Writes a text. Where it has several lines, or could be taken for a comment, how many lines it
+/// has stands before it.
+fn put_text<W: Write>(out: &mut W, text: &[u8]) -> io::Result<()> {
+    let lines = newlines(text).saturating_add(1);
+    if lines > 1 {
+        writeln!(out, "# a text of {lines} lines:")?;
+    } else if text.first() == Some(&b'#') {
+        writeln!(out, "# a text of 1 line:")?;
+    }
+    out.write_all(text)?;
+    writeln!(out)
+}
+
+/// Writes a list as it is shown.
+fn put_shown<W: Write>(
+    out: &mut W,
+    grammar: &Grammar,
+    tokens: &[Sym],
+    shown: &Shown,
+) -> io::Result<()> {
+    match shown {
+        Shown::Tokens => put_tokens(out, grammar, tokens),
+        Shown::Text(text) => put_text(out, text),
+        Shown::Untold => {
+            let names = Names(grammar, tokens);
+            writeln!(out, "# no text:{names}")
+        }
+    }
 }
 
 /// Writes tokens in a line.
@@ -143,8 +189,8 @@ impl<W: Write, F: Files + AllocGlobal + Clone + Drop> Sheet<'_, W, F> {
         self.put_near(number, tokens)
     }
 
-    /// Writes a sentence that was drawn, with its verdict, and says whether it is accepted. Without a
-    /// verdict there are no lists near to it.
+    /// Writes a sentence that was drawn, with its verdict, and says whether it is accepted.
+    /// Without a verdict there are no lists near to it.
     pub fn put_drawn(&mut self, number: usize, tokens: &[Sym]) -> io::Result<bool> {
         let (verdict, elements) = (self.verdict(tokens)?, self.elements);
         let is_accepted = matches!(verdict, Verdict::Accepted(_));
@@ -170,13 +216,42 @@ impl<W: Write, F: Files + AllocGlobal + Clone + Drop> Sheet<'_, W, F> {
         verdict_on(self.alloc, self.elements.tables, &Tokens { symbols })
     }
 
+    /// How a list is written.
+    fn shown(&self, tokens: &[Sym]) -> io::Result<Shown> {
+        let Some(writer) = self.writer else {
+            return Ok(Shown::Tokens);
+        };
+        let grammar = grammar_of(self.elements.tables);
+        match writer.text(self.alloc, grammar, tokens)? {
+            Some(text) => Ok(Shown::Text(text)),
+            None => Ok(Shown::Untold),
+        }
+    }
+
+    /// What a file of a list that is shown so has; `None` where it has no file.
+    fn filed(&self, tokens: &[Sym], shown: &Shown) -> io::Result<Option<Vec<u8>>> {
+        let grammar = grammar_of(self.elements.tables);
+        match (shown, self.writer) {
+            (Shown::Text(text), Some(writer)) => {
+                writer.filed(self.alloc, grammar, text, tokens).map(Some)
+            }
+            (Shown::Tokens, _) => {
+                let mut text = Vec::new(self.alloc);
+                put_tokens(&mut text, grammar, tokens)?;
+                Ok(Some(text))
+            }
+            _ => Ok(None),
+        }
+    }
+
     /// Writes a sentence, and where it is kept.
     fn put_list(&mut self, number: usize, tokens: &[Sym]) -> io::Result<()> {
-        let elements = self.elements;
-        let grammar = grammar_of(elements.tables);
-        let path = self.folder.store(grammar, (number, 0), tokens, None)?;
-        put_saved(self.out, path.as_ref())?;
-        put_tokens(self.out, grammar, tokens)
+        let (shown, elements) = (self.shown(tokens)?, self.elements);
+        if let Some(text) = self.filed(tokens, &shown)? {
+            let path = self.folder.store_text((number, 0), &text)?;
+            put_saved(self.out, path.as_ref())?;
+        }
+        put_shown(self.out, grammar_of(elements.tables), tokens, &shown)
     }
 
     /// Writes the lists that are near to a sentence, where they are wanted.
@@ -216,9 +291,12 @@ impl<W: Write, F: Files + AllocGlobal + Clone + Drop> Sheet<'_, W, F> {
             self.accepted = self.accepted.saturating_add(1);
         }
         verdict.put_words(self.out, grammar)?;
-        let path = self.near_folder.store(grammar, numbers, list, None)?;
-        put_saved(self.out, path.as_ref())?;
-        put_tokens(self.out, grammar, list)
+        let shown = self.shown(list)?;
+        if let Some(text) = self.filed(list, &shown)? {
+            let path = self.near_folder.store_text(numbers, &text)?;
+            put_saved(self.out, path.as_ref())?;
+        }
+        put_shown(self.out, grammar, list, &shown)
     }
 
     /// Writes an element that no sentence uses, and why.

@@ -9,7 +9,8 @@ use std::io::{self, Write};
 /// The most bytes of a text in one piece: so no string is longer than C90 promises to take.
 const MOST_BYTES: usize = 100;
 
-/// The messages of a parser: their pieces as items of an array, and where those of each state begin.
+/// The messages of a parser: their pieces as items of an array, and where those of each state
+/// begin.
 #[derive(Drop)]
 pub struct Speech {
     items: Vec<u8>,

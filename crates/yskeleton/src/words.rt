@@ -1,5 +1,5 @@
-//! The fixed texts in C that stand before and after the tables of a parser: which parser it is, words
-//! for actions, the limits of the stack, and the variables.
+//! The fixed texts in C that stand before and after the tables of a parser: which parser it is,
+//! words for actions, the limits of the stack, and the variables.
 
 /// What each parser begins with, after the line that tells where it is from.
 pub const FRONT: &str = r##"

@@ -84,7 +84,7 @@ fn put_mentions<W: Write>(page: &mut Page<W>, lines: &Lines, symbol: Sym) {
         }
         if let Some(words) = how_words(mention.role) {
             left -= 1;
-            let _ = writeln!(page, "{words} on line {}", mention.line);
+            let _ = writeln!(page, "{words} on line {}", mention.spot.line);
         }
     }
 }

@@ -1,0 +1,102 @@
+//! What people call tokens, where that is known: by the strings of a file of bison, or as a SPEC
+//! says that they look.
+
+use std::alloc::Global;
+use std::io::{self, Write};
+use yexplain::reads::{Made, name_of};
+use yimport::import::Imported;
+use ysymbols::{Grammar, Sym};
+
+/// What symbols are called that aren't called by their names, by their numbers.
+#[derive(Drop)]
+pub struct Spelled {
+    texts: Vec<Option<Vec<u8>>>,
+}
+
+/// A text as a string of C has it.
+fn quoted(alloc: Global, text: &[u8]) -> Made<Vec<u8>> {
+    let mut quoted = Vec::from_slice(alloc, b"\"")?;
+    for byte in text {
+        if *byte == b'"' || *byte == b'\\' {
+            quoted.push(b'\\')?;
+        }
+        quoted.push(*byte)?;
+    }
+    quoted.push(b'"')?;
+    Ok(quoted)
+}
+
+impl Spelled {
+    /// All symbols are called by their names.
+    pub fn none(alloc: Global) -> Spelled {
+        Spelled {
+            texts: Vec::new(alloc),
+        }
+    }
+
+    /// Tokens are called by the strings of a file of bison that became this grammar.
+    pub fn of_import(
+        alloc: Global,
+        source: &[u8],
+        grammar: &Grammar,
+        imported: &Imported,
+    ) -> Made<Spelled> {
+        let texts = imported.spelling.texts(alloc, source, grammar)?;
+        Ok(Spelled { texts })
+    }
+
+    /// What a symbol is called, unless that is its name.
+    pub fn of(&self, symbol: Sym) -> Option<&[u8]> {
+        let text = self.texts.get(symbol)?;
+        text.as_ref().map(Vec::as_slice)
+    }
+
+    /// The same, with the texts of tokens that are called by their names so far.
+    pub fn with_texts(&self, alloc: Global, texts: &[Option<Vec<u8>>]) -> Made<Spelled> {
+        let mut all = Vec::new(alloc);
+        for (symbol, text) in texts.iter().enumerate() {
+            all.push(match (self.of(symbol), text) {
+                (Some(called), _) => Some(Vec::from_slice(alloc, called)?),
+                (None, Some(text)) => Some(quoted(alloc, text)?),
+                (None, None) => None,
+            })?;
+        }
+        Ok(Spelled { texts: all })
+    }
+}
+
+/// The symbols of a grammar as people are told of them.
+#[derive(Clone, Copy)]
+pub struct Spoken<'a> {
+    /// The grammar.
+    pub grammar: &'a Grammar,
+    /// What its symbols are called; without it, they are by their names.
+    spelled: Option<&'a Spelled>,
+}
+
+impl<'a> Spoken<'a> {
+    /// The symbols of a grammar by what they are called.
+    pub fn new(grammar: &'a Grammar, spelled: &'a Spelled) -> Spoken<'a> {
+        Spoken {
+            grammar,
+            spelled: Some(spelled),
+        }
+    }
+
+    /// The symbols of a grammar by their names.
+    pub fn by_names(grammar: &'a Grammar) -> Spoken<'a> {
+        Spoken {
+            grammar,
+            spelled: None,
+        }
+    }
+
+    /// Writes what a symbol is called.
+    pub fn put<W: Write>(self, out: &mut W, symbol: Sym) -> io::Result<()> {
+        let called = match self.spelled {
+            Some(spelled) => spelled.of(symbol),
+            None => None,
+        };
+        out.write_all(called.unwrap_or(name_of(self.grammar, symbol)))
+    }
+}

@@ -1,0 +1,166 @@
+//! A short text for an expression, made of its tree: at each choice the first way is taken, or
+//! another one where that is asked for. Whether the expression matches it is tried elsewhere.
+
+use regex_class::Class;
+use regex_hir::Hir;
+use std::alloc::Global;
+use yexplain::reads::Made;
+
+/// The most parts of a tree that are gone through for one text.
+const MOST_PARTS: usize = 1_000;
+
+/// The members of classes that a text has rather than others, the first ones rather than the last.
+const LIKED: &[u8] = b"abcdefghijklmnopqrstuvwxyzABCDEFGHIJKLMNOPQRSTUVWXYZ1234567890\
+    _-+*/=<>.,:;!?%&|^~@$#()[]{}\"'`\\ \t";
+
+/// Which ways are taken: the first one at each choice, but for those that are named here.
+#[derive(Clone, Copy, Drop)]
+pub struct Taste {
+    /// The choice that takes another way, counted from 0 as they come; without it, every one.
+    pub choice: Option<usize>,
+    /// Which way it takes, counted from 0.
+    pub way: usize,
+}
+
+/// A text that an expression may match.
+#[derive(Drop)]
+pub struct Sample {
+    /// The text.
+    pub text: Vec<u8>,
+    /// How many choices there were.
+    pub choices: usize,
+}
+
+/// A text on its way to be made.
+#[derive(Drop)]
+struct Making<'a> {
+    taste: Taste,
+    choices: usize,
+    /// The parts of the tree that are to come, the next one last.
+    parts: Vec<&'a Hir>,
+    text: Vec<u8>,
+}
+
+/// The member of a class that a way takes: of those that are liked, or else its first one.
+fn member_of(class: &Class, way: usize) -> Option<u32> {
+    let mut found = class.ranges.first().map(|range| range.0);
+    let liked = LIKED.iter().map(|byte| u32::from(*byte));
+    for member in liked
+        .filter(|member| class.contains(*member))
+        .take(way.saturating_add(1))
+    {
+        found = Some(member);
+    }
+    found
+}
+
+impl<'a> Making<'a> {
+    /// The way that the next choice takes.
+    fn way(&mut self) -> usize {
+        let number = self.choices;
+        self.choices = number.saturating_add(1);
+        match self.taste.choice {
+            Some(choice) if choice != number => 0,
+            _ => self.taste.way,
+        }
+    }
+
+    /// Takes a byte of a class.
+    fn take_byte(&mut self, class: &Class) -> Made<()> {
+        let way = self.way();
+        let member = member_of(class, way).unwrap_or(0);
+        if let Ok(byte) = u8::try_from(member) {
+            self.text.push(byte)?;
+        }
+        Ok(())
+    }
+
+    /// Takes a character of a class.
+    fn take_char(&mut self, class: &Class) -> Made<()> {
+        let way = self.way();
+        let member = member_of(class, way).unwrap_or(0);
+        if let Some(found) = char::from_u32(member) {
+            let mut text = String::new(*self.text.allocator());
+            text.push(found)?;
+            self.text.extend_from_slice(text.as_bytes())?;
+        }
+        Ok(())
+    }
+
+    /// A part comes as often as it has to, and more often by another way.
+    fn repeat(&mut self, least: u32, most: Option<u32>, part: &'a Hir) -> Made<()> {
+        let count = (least as usize).saturating_add(self.way());
+        let most = most.map_or(count, |most| most as usize);
+        for _ in 0..count.min(most).min(MOST_PARTS) {
+            self.parts.push(part)?;
+        }
+        Ok(())
+    }
+
+    /// One of several parts comes.
+    fn choose(&mut self, parts: &'a [Hir]) -> Made<()> {
+        let way = self.way().checked_rem(parts.len()).unwrap_or(0);
+        if let Some(part) = parts.get(way) {
+            self.parts.push(part)?;
+        }
+        Ok(())
+    }
+
+    /// A part comes.
+    fn put(&mut self, part: &'a Hir) -> Made<()> {
+        self.parts.push(part)?;
+        Ok(())
+    }
+
+    /// Parts come, one after the other.
+    fn put_all(&mut self, parts: &'a [Hir]) -> Made<()> {
+        for part in parts.iter().rev() {
+            self.parts.push(part)?;
+        }
+        Ok(())
+    }
+
+    /// Takes a part.
+    fn take(&mut self, part: &'a Hir) -> Made<()> {
+        match part {
+            Hir::Empty | Hir::Look(_) => {}
+            Hir::Literal(bytes) => self.text.extend_from_slice(bytes)?,
+            Hir::Bytes(class) => self.take_byte(class)?,
+            Hir::Chars(class) => self.take_char(class)?,
+            Hir::Repetition { min, max, sub, .. } => self.repeat(*min, *max, sub)?,
+            Hir::Capture { sub, .. } => self.put(sub)?,
+            Hir::Concat(parts) => self.put_all(parts)?,
+            Hir::Alternation(parts) => self.choose(parts)?,
+        }
+        Ok(())
+    }
+
+    /// Takes all parts, and says whether they came to an end.
+    fn run(&mut self) -> Made<bool> {
+        for _ in 0..MOST_PARTS {
+            match self.parts.pop() {
+                Some(part) => self.take(part)?,
+                None => return Ok(true),
+            }
+        }
+        Ok(false)
+    }
+}
+
+/// The text that a tree has by a taste; `None` where it has too many parts.
+pub fn sample_of(alloc: Global, tree: &Hir, taste: Taste) -> Made<Option<Sample>> {
+    let mut making = Making {
+        taste,
+        choices: 0,
+        parts: Vec::new(alloc),
+        text: Vec::new(alloc),
+    };
+    making.parts.push(tree)?;
+    let is_whole = making.run()?;
+    let Making { text, choices, .. } = making;
+    Ok(if is_whole {
+        Some(Sample { text, choices })
+    } else {
+        None
+    })
+}

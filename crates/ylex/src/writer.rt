@@ -1,0 +1,292 @@
+//! Texts for lists of tokens: a short one for each token, and between them what is passed over.
+//! Each was tried with the lexer, which cuts it into exactly these tokens.
+
+use crate::fault::TextFault;
+use crate::lexer::Lexer;
+use crate::sample::{Taste, sample_of};
+use crate::spelled::tree_of;
+use regex::bytes::Regex;
+use regex_hir::Hir;
+use std::alloc::{AllocError, Global};
+use std::io::{self, ErrorKind};
+use yexplain::reads::{Made, name_of};
+use ysymbols::{Grammar, Sym};
+
+/// How many choices of an expression take other ways, one at a time, and how many ways each.
+const MOST_CHOICES: usize = 12;
+
+const MOST_WAYS: usize = 3;
+
+/// What writes lists of tokens as texts.
+#[derive(Drop)]
+pub struct Writer {
+    lexer: Lexer,
+    /// The text of each token, where one is found.
+    samples: Vec<Option<Vec<u8>>>,
+    /// What may stand between tokens, the first ones rather than the last; nothing is the last.
+    separators: Vec<Vec<u8>>,
+}
+
+/// What texts are tried with.
+#[derive(Clone, Copy)]
+struct Trial<'a> {
+    alloc: Global,
+    grammar: &'a Grammar,
+    lexer: &'a Lexer,
+}
+
+/// Whether a lexer cuts a text into exactly these tokens.
+fn is_cut(
+    alloc: Global,
+    grammar: &Grammar,
+    lexer: &Lexer,
+    text: &[u8],
+    tokens: &[Sym],
+) -> io::Result<bool> {
+    match lexer.lex(alloc, grammar, text) {
+        Ok(lexed) => Ok(lexed.tokens.symbols.as_slice() == tokens),
+        Err(TextFault::Memory) => Err(io::Error::from(ErrorKind::OutOfMemory)),
+        Err(TextFault::Unmatched(_) | TextFault::TooMany(_)) => Ok(false),
+    }
+}
+
+impl<'a> Trial<'a> {
+    /// What tries texts with a lexer.
+    fn new(alloc: Global, grammar: &'a Grammar, lexer: &'a Lexer) -> Trial<'a> {
+        Trial {
+            alloc,
+            grammar,
+            lexer,
+        }
+    }
+
+    /// Whether a text is cut into exactly these tokens.
+    fn is_cut(self, text: &[u8], tokens: &[Sym]) -> io::Result<bool> {
+        is_cut(self.alloc, self.grammar, self.lexer, text, tokens)
+    }
+
+    /// The text of a tree by a taste, where it is cut into what is wanted.
+    fn by_taste(self, tree: &Hir, taste: Taste, wanted: &[Sym]) -> io::Result<Option<Vec<u8>>> {
+        let Some(sample) = sample_of(self.alloc, tree, taste)? else {
+            return Ok(None);
+        };
+        let is_new = taste.choice.map_or(true, |choice| choice < sample.choices);
+        if is_new && !sample.text.is_empty() && self.is_cut(&sample.text, wanted)? {
+            Ok(Some(sample.text))
+        } else {
+            Ok(None)
+        }
+    }
+
+    /// A text of a tree in which choices take this way, one of them or all, where it is cut into
+    /// what is wanted.
+    fn by_way(self, tree: &Hir, way: usize, wanted: &[Sym]) -> io::Result<Option<Vec<u8>>> {
+        for choice in 0..MOST_CHOICES {
+            let choice = Some(choice);
+            let found = self.by_taste(tree, Taste { choice, way }, wanted)?;
+            if found.is_some() {
+                return Ok(found);
+            }
+        }
+        let choice = None;
+        self.by_taste(tree, Taste { choice, way }, wanted)
+    }
+
+    /// A text of a tree that is cut into what is wanted, where one is found.
+    fn by_tree(self, tree: &Hir, wanted: &[Sym]) -> io::Result<Option<Vec<u8>>> {
+        let choice = None;
+        let first = self.by_taste(tree, Taste { choice, way: 0 }, wanted)?;
+        if first.is_some() {
+            return Ok(first);
+        }
+        for way in 1..=MOST_WAYS {
+            let found = self.by_way(tree, way, wanted)?;
+            if found.is_some() {
+                return Ok(found);
+            }
+        }
+        Ok(None)
+    }
+
+    /// A text of an expression that is cut into what is wanted, where one is found.
+    fn by_regex(self, regex: &Regex, wanted: &[Sym]) -> io::Result<Option<Vec<u8>>> {
+        match tree_of(self.alloc, regex.as_str())? {
+            Some(tree) => self.by_tree(&tree, wanted),
+            None => Ok(None),
+        }
+    }
+
+    /// How a token is spelled that stands for itself.
+    fn own_text(self, token: Sym) -> Made<Option<Vec<u8>>> {
+        let mut literals = (0..=255u8).zip(&self.lexer.literals);
+        if let Some((byte, _)) = literals.find(|(_, it)| **it == Some(token)) {
+            return Vec::from_slice(self.alloc, &[byte]).map(Some);
+        }
+        let mut words = self.lexer.words.iter();
+        match words.find(|word| word.token == token) {
+            Some(_) => Vec::from_slice(self.alloc, name_of(self.grammar, token)).map(Some),
+            None => Ok(None),
+        }
+    }
+
+    /// A text of a line that gives a token, where one is found.
+    fn by_lines(self, token: Sym) -> io::Result<Option<Vec<u8>>> {
+        for (given, regex) in self.lexer.tokens.iter().zip(&self.lexer.regexes) {
+            if *given == Some(token) {
+                let found = self.by_regex(regex, &[token])?;
+                if found.is_some() {
+                    return Ok(found);
+                }
+            }
+        }
+        Ok(None)
+    }
+
+    /// The text of a token, where one is found.
+    fn sample(self, token: Sym) -> io::Result<Option<Vec<u8>>> {
+        if let Some(text) = self.own_text(token)? {
+            if self.is_cut(&text, &[token])? {
+                return Ok(Some(text));
+            }
+        }
+        self.by_lines(token)
+    }
+
+    /// The text of each token, where one is found.
+    fn samples(self) -> io::Result<Vec<Option<Vec<u8>>>> {
+        let mut samples = Vec::new(self.alloc);
+        for token in 0..self.grammar.symbols() {
+            let sample = self.sample(token)?;
+            samples.push(sample).map_err(AllocError::from)?;
+        }
+        Ok(samples)
+    }
+
+    /// Adds a separator, where it is passed over.
+    fn add_passed(self, separators: &mut Vec<Vec<u8>>, text: &[u8]) -> io::Result<()> {
+        if self.is_cut(text, &[])? {
+            let text = Vec::from_slice(self.alloc, text)?;
+            separators.push(text).map_err(AllocError::from)?;
+        }
+        Ok(())
+    }
+
+    /// Adds a text of each expression that is passed over.
+    fn add_skipped(self, separators: &mut Vec<Vec<u8>>) -> io::Result<()> {
+        for (given, regex) in self.lexer.tokens.iter().zip(&self.lexer.regexes) {
+            if given.is_none() {
+                if let Some(text) = self.by_regex(regex, &[])? {
+                    separators.push(text).map_err(AllocError::from)?;
+                }
+            }
+        }
+        Ok(())
+    }
+
+    /// What may stand between tokens.
+    fn separators(self) -> io::Result<Vec<Vec<u8>>> {
+        let mut separators = Vec::new(self.alloc);
+        self.add_passed(&mut separators, b" ")?;
+        self.add_passed(&mut separators, b"\t")?;
+        if separators.is_empty() {
+            self.add_skipped(&mut separators)?;
+            self.add_passed(&mut separators, b"\n")?;
+        }
+        self.add_passed(&mut separators, b"")?;
+        Ok(separators)
+    }
+}
+
+impl Writer {
+    /// What writes texts that this lexer cuts into tokens of a grammar.
+    pub fn new(alloc: Global, grammar: &Grammar, lexer: Lexer) -> io::Result<Writer> {
+        let trial = Trial::new(alloc, grammar, &lexer);
+        let samples = trial.samples()?;
+        let separators = trial.separators()?;
+        Ok(Writer {
+            lexer,
+            samples,
+            separators,
+        })
+    }
+
+    /// What cuts the texts.
+    pub fn lexer(&self) -> &Lexer {
+        &self.lexer
+    }
+
+    /// Whether a text is found for a token.
+    pub fn tells(&self, token: Sym) -> bool {
+        self.samples
+            .get(token)
+            .map_or(false, |sample| sample.is_some())
+    }
+
+    /// What may stand between tokens, in the order in which it is tried.
+    pub fn separators(&self) -> &[Vec<u8>] {
+        &self.separators
+    }
+
+    /// The texts of tokens with a separator between them, which is still to be tried; `None` where
+    /// a token has no text.
+    pub fn joined(&self, alloc: Global, tokens: &[Sym], separator: &[u8]) -> Made<Option<Vec<u8>>> {
+        let mut text = Vec::new(alloc);
+        for (index, token) in tokens.iter().enumerate() {
+            let Some(Some(sample)) = self.samples.get(*token) else {
+                return Ok(None);
+            };
+            if index > 0 {
+                text.extend_from_slice(separator)?;
+            }
+            text.extend_from_slice(sample)?;
+        }
+        Ok(Some(text))
+    }
+
+    /// The text of tokens with a separator, where it is cut into exactly these.
+    fn joined_by(
+        &self,
+        alloc: Global,
+        grammar: &Grammar,
+        tokens: &[Sym],
+        separator: &[u8],
+    ) -> io::Result<Option<Vec<u8>>> {
+        match self.joined(alloc, tokens, separator)? {
+            Some(text) if is_cut(alloc, grammar, &self.lexer, &text, tokens)? => Ok(Some(text)),
+            _ => Ok(None),
+        }
+    }
+
+    /// A text that is cut into exactly these tokens, where one is found.
+    pub fn text(
+        &self,
+        alloc: Global,
+        grammar: &Grammar,
+        tokens: &[Sym],
+    ) -> io::Result<Option<Vec<u8>>> {
+        for separator in &self.separators {
+            let found = self.joined_by(alloc, grammar, tokens, separator)?;
+            if found.is_some() {
+                return Ok(found);
+            }
+        }
+        Ok(None)
+    }
+
+    /// A text of these tokens as a file has it: with a newline at its end, where that is passed
+    /// over.
+    pub fn filed(
+        &self,
+        alloc: Global,
+        grammar: &Grammar,
+        text: &[u8],
+        tokens: &[Sym],
+    ) -> io::Result<Vec<u8>> {
+        let mut filed = Vec::from_slice(alloc, text)?;
+        filed.push(b'\n')?;
+        if !is_cut(alloc, grammar, &self.lexer, &filed, tokens)? {
+            filed.pop();
+        }
+        Ok(filed)
+    }
+}

@@ -1,0 +1,132 @@
+//! How the inputs of a file of messages are read: as tokens, or as texts in the language of a
+//! grammar.
+
+use std::alloc::Global;
+use std::io::{self, ErrorKind};
+use yinput::language::Language;
+use ylalr::END;
+use ylex::fault::TextFault;
+use ylex::lexer::{Lexed, Lexer};
+use yparse::{TokenFault, Tokens, read_tokens};
+use ysymbols::Sym;
+use ytables::Tables;
+
+/// What reads inputs.
+#[derive(Clone, Copy)]
+pub struct Inputs<'a> {
+    /// The tables.
+    pub(crate) tables: &'a Tables,
+    /// What cuts texts; without it, inputs are tokens.
+    pub(crate) lexer: Option<&'a Lexer>,
+}
+
+/// An input as tokens.
+#[derive(Drop)]
+pub struct Listed {
+    /// Its tokens but for the end.
+    pub tokens: Tokens,
+    /// Whether the end stands after them, which is then the last token.
+    pub ended: bool,
+}
+
+/// Why a line is no input.
+#[derive(Clone, Copy, Drop)]
+pub enum Wrong {
+    /// It has this fault as tokens.
+    Tokens(TokenFault),
+    /// It is a text, and nothing matches after so many of its bytes.
+    Unmatched(usize),
+    /// It is a text, and a token too many begins after so many of its bytes.
+    TooMany(usize),
+}
+
+/// Whether a word can begin after some bytes.
+fn ends_word(bytes: &[u8]) -> bool {
+    match bytes.last() {
+        None | Some(b' ') | Some(b'\t') | Some(b'\'') => true,
+        Some(_) => false,
+    }
+}
+
+/// The tokens of an input without the end, where that is its last word.
+fn without_end(line: &[u8]) -> (&[u8], bool) {
+    let text = line.trim_ascii_end();
+    match text.strip_suffix(b"$end") {
+        Some(rest) if ends_word(rest) => (rest, true),
+        _ => (text, false),
+    }
+}
+
+/// The text of an input without the end, and the blank before it, where that is its last word.
+fn text_without_end(line: &[u8]) -> (&[u8], bool) {
+    let rest = line.trim_ascii_end().strip_suffix(b"$end");
+    match rest.map(|rest| rest.split_last()) {
+        Some(None) => (&[], true),
+        Some(Some((b' ' | b'\t', before))) => (before, true),
+        _ => (line, false),
+    }
+}
+
+/// The error of memory that ran out.
+fn no_memory() -> io::Error {
+    io::Error::from(ErrorKind::OutOfMemory)
+}
+
+impl Listed {
+    /// The tokens before the last one, and that.
+    pub fn list(&self) -> (&[Sym], Sym) {
+        let symbols = self.tokens.symbols.as_slice();
+        match symbols.split_last() {
+            Some((last, before)) if !self.ended => (before, *last),
+            _ => (symbols, END),
+        }
+    }
+}
+
+impl<'a> Inputs<'a> {
+    /// Inputs that are tokens.
+    pub fn of_tokens(tables: &'a Tables) -> Inputs<'a> {
+        let lexer = None;
+        Inputs { tables, lexer }
+    }
+
+    /// Inputs of a language: texts, where it has a SPEC.
+    pub fn of_language(language: &'a Language) -> Inputs<'a> {
+        Inputs {
+            tables: &language.opened.tables,
+            lexer: language.lexer(),
+        }
+    }
+
+    /// An input that is tokens.
+    fn read_tokens(self, alloc: Global, line: &[u8]) -> io::Result<Result<Listed, Wrong>> {
+        let (text, ended) = without_end(line);
+        match read_tokens(alloc, self.tables, text) {
+            Ok(tokens) => Ok(Ok(Listed { tokens, ended })),
+            Err(TokenFault::Memory) => Err(no_memory()),
+            Err(fault) => Ok(Err(Wrong::Tokens(fault))),
+        }
+    }
+
+    /// An input that is a text.
+    fn cut(self, alloc: Global, lexer: &Lexer, line: &[u8]) -> io::Result<Result<Listed, Wrong>> {
+        let (text, ended) = text_without_end(line);
+        match lexer.lex(alloc, self.tables.automaton().grammar(), text) {
+            Ok(lexed) => {
+                let Lexed { tokens, .. } = lexed;
+                Ok(Ok(Listed { tokens, ended }))
+            }
+            Err(TextFault::Unmatched(at)) => Ok(Err(Wrong::Unmatched(at))),
+            Err(TextFault::TooMany(at)) => Ok(Err(Wrong::TooMany(at))),
+            Err(TextFault::Memory) => Err(no_memory()),
+        }
+    }
+
+    /// The input of a line, or why that is none.
+    pub fn read(self, alloc: Global, line: &[u8]) -> io::Result<Result<Listed, Wrong>> {
+        match self.lexer {
+            Some(lexer) => self.cut(alloc, lexer, line),
+            None => self.read_tokens(alloc, line),
+        }
+    }
+}

@@ -1,0 +1,6 @@
+%token NUM
+%%
+sum : NUM
+    | sum '+' NUM
+    | '(' sum ')'
+    ;

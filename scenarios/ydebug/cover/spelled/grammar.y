@@ -1,0 +1,3 @@
+%token NAME LE
+%%
+s : NAME LE NAME ;

@@ -1,0 +1,5 @@
+%token NUM
+%%
+sum : NUM
+    | sum '#' NUM
+    ;

@@ -1,0 +1,4 @@
+%skip [ ]+
+NAME  [a-z]+
+WORD  [a-z][a-z]*
+%none INDENT

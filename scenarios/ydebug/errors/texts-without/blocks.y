@@ -1,0 +1,6 @@
+%token INDENT WORD NAME
+%%
+block : NAME
+      | WORD ';'
+      | INDENT NAME
+      ;

@@ -1,0 +1,3 @@
+%token NAME LE "at most" GE
+%%
+test : NAME LE NAME | NAME GE NAME ;

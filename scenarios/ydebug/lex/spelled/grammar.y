@@ -1,0 +1,4 @@
+%token SELECT LE PLUS NE NUMBER WORD SAME ODD LINE ARROW
+%%
+query : SELECT item ;
+item  : LE | PLUS | NE | NUMBER | WORD | SAME | ODD | LINE | ARROW | '*' ;

@@ -1,0 +1,5 @@
+%token N M
+%%
+e : e '-' e
+  | N M
+  ;

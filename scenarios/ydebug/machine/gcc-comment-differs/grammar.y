@@ -1,0 +1,5 @@
+%token N
+%% /* %expect 2 */
+e : e '-' e
+  | N
+  ;

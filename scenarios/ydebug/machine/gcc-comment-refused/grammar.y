@@ -1,0 +1,5 @@
+%token N
+%%
+e : e '-' e /* %expect one */
+  | N
+  ;

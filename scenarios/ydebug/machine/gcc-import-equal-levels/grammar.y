@@ -1,0 +1,3 @@
+%token NUM  %precedence OR
+%%
+e : NUM | e OR e ;

@@ -1,0 +1,5 @@
+%token N  %expect 3
+%%
+e: e '-' e
+ | N
+ ;

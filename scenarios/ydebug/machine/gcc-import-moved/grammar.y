@@ -1,0 +1,4 @@
+%%
+e : e '+' e | NUM ;
+%token NUM IDLE ;
+%left '+' ;

@@ -1,0 +1,7 @@
+%token A B C
+%%
+s : A { one(); } q { two(); } C
+  ;
+q : B
+  | q C
+  ;

@@ -1,0 +1,3 @@
+%token N "number" LE "<="
+%%
+e : N LE N ;

@@ -1,0 +1,3 @@
+%skip [ ]+
+NAME [a-z]+
+NUM  [0-9]+

@@ -1,0 +1,2 @@
+%skip [ ]+
+NAME  [a-z]+

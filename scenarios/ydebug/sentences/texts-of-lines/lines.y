@@ -1,0 +1,9 @@
+%token NAME
+%%
+lines : line
+      | lines line
+      ;
+line  : NAME '\n'
+      | '#' NAME '\n'
+      | '#' '#'
+      ;

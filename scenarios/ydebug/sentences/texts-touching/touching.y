@@ -1,0 +1,6 @@
+%token NAME NUM
+%%
+pair : NAME '=' NUM
+     | NAME NAME
+     | NUM NAME
+     ;

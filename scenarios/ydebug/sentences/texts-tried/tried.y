@@ -1,0 +1,6 @@
+%token a b NAME LONG
+%%
+list : a NAME
+     | b LONG
+     | NAME NAME
+     ;

@@ -1,0 +1,6 @@
+%token NAME WORD INDENT
+%%
+block : NAME
+      | INDENT NAME
+      | WORD ';'
+      ;
