@@ -1,9 +1,8 @@
 """Builds libsulderko: bin/libsulderko.a and bin/libsulderko.so.1.
 
-`rt ci` proves the crate yembed and all below it, or takes what an earlier run on the machine proved
-of the same files; then the archive is built over these libraries, which proves the crate once more.
-What the archive needs of the kit's C part goes into it, and no name but those of the calls is left
-global.
+The crate yembed is proved as it is built: over the libraries that `rt ci` left in crates/, where
+all of them are newer than what they are built from; else `rt lib` proves these too. What the
+archive needs of the kit's C part goes into it, and no name but those of the calls is left global.
 """
 import os
 import shlex
@@ -51,6 +50,20 @@ def rlib(name):
     return TOP / f"crates/{name}/out/rlib/{name}.rlib"
 
 
+def sources(name):
+    """The files from which a library is made."""
+    folder = TOP / "crates" / name
+    return [it for part in ("src", "specs", "proofs") for it in (folder / part).rglob("*")]
+
+
+def is_left(name):
+    """Whether `rt ci` left a library, which has no stamp, and that is newer than its sources."""
+    made = rlib(name) / "format"
+    if not made.is_file() or (rlib(name).parent / "stamp").is_file():
+        return False
+    return all(it.stat().st_mtime < made.stat().st_mtime for it in sources(name))
+
+
 def build(at, libraries, named):
     """Proves the crate and builds its archive over libraries that are there."""
     used = {it for one in (*libraries, "yembed") for it in named[one]} | {"std"}
@@ -69,8 +82,11 @@ def made_archive(at):
     """Makes the archive of the crate."""
     ARCHIVE.parent.mkdir(parents=True, exist_ok=True)
     named = uses()
-    run(["rt", "ci", "yembed"])
-    build(at, below("yembed", [], named), named)
+    libraries = below("yembed", [], named)
+    if all(map(is_left, libraries)):
+        build(at, libraries, named)
+    else:
+        run(["rt", "lib"], CRATE)
 
 
 def link(at):
