@@ -3,19 +3,23 @@ puts the library and the version beside this file first."""
 from pathlib import Path
 
 from setuptools import setup
+from setuptools.dist import Distribution
 from wheel.bdist_wheel import bdist_wheel
 
 
-class Wheel(bdist_wheel):
-    """A wheel that holds a library, and nothing that one version of Python alone can read."""
+class WithLibrary(Distribution):
+    """What is packed belongs to one system, since a library is in it."""
 
-    def finalize_options(self):
-        super().finalize_options()
-        self.root_is_pure = False
+    def has_ext_modules(self):
+        return True
+
+
+class Wheel(bdist_wheel):
+    """A wheel with nothing in it that one version of Python alone can read."""
 
     def get_tag(self):
         return "py3", "none", super().get_tag()[2]
 
 
 version = (Path(__file__).parent / "VERSION").read_text().strip()
-setup(version=version, cmdclass={"bdist_wheel": Wheel})
+setup(version=version, distclass=WithLibrary, cmdclass={"bdist_wheel": Wheel})
