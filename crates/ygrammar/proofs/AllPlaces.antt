@@ -3,8 +3,8 @@ use Rattle.std.proofs.Common.{ℕ, ◌≡◌, inl, inr, Bool, true, false, List,
 use Rattle.std.proofs.Common.{Option, Some, None, cond, filter, refl, sym, ap, subst, ◌∙◌}
 use Rattle.std.specs.List.{AllByRecursion}
 use Rattle.std.specs.Prelude.{slice_get}
-use Rattle.ysymbols.proofs.NameSteps.{false_true}
-use Rattle.youtline.specs.Places.{AllAt, FirstAt, select}
+use Rattle.ydeclarations.specs.Places.{AllAt, FirstAt, select}
+use Rattle.ydeclarations.proofs.PlaceSteps.{Shows, by_test, no_other}
 use Rattle.ysyntax.specs.Sites.{Role, Site, each}
 
 pub all_behind : (P : Role → Type 0) (ds rs : List Site) (ps : List ℕ) →
@@ -27,31 +27,15 @@ filter_seen : {X A : Type 0} (p : A → Bool) (v : X → A) (place : X → ℕ) 
     map place (filter (λ x. p (v x)) xs)
     ≡ map (λ (y : A × ℕ). y.1) (filter (λ y. p y.0) (map (λ x. (v x, place x)) xs))
 filter_seen p v place [] = refl
-filter_seen {X = X} {A = A} p v place (x ∷ xs) = go (p (v x)) (filter_seen p v place xs)
-  where
-    go : (b : Bool) → map place (filter (λ x. p (v x)) xs)
-        ≡ map (λ (y : A × ℕ). y.1) (filter (λ y. p y.0) (map (λ x. (v x, place x)) xs)) →
-        map place (cond b (x ∷ filter (λ x. p (v x)) xs) (filter (λ x. p (v x)) xs))
-        ≡ map (λ (y : A × ℕ). y.1) (cond b ((v x, place x)
-        ∷ filter (λ y. p y.0) (map (λ x. (v x, place x)) xs))
-        (filter (λ y. p y.0) (map (λ x. (v x, place x)) xs)))
-    go true again = ap (λ z. place x ∷ z) again
-    go false again = again
+filter_seen p v place (x ∷ xs) = by_test (map place) (map (λ y. y.1)) (p (v x))
+    _ _ _ _ (ap (λ z. place x ∷ z) (filter_seen p v place xs)) (filter_seen p v place xs)
 
 module _ {A : Type 0} (f : Role → Option A) (p : A → Bool) (P : Role → Type 0)
     (yes : (r : Role) (x : A) → f r ≡ Some x → p x ≡ true → P r) where
-  abbrev Shows : Site → Type 0
-  Shows s = P s.role → (x : A) × (f s.role ≡ Some x) × (p x ≡ true)
-
   abbrev all_of : List (A × ℕ) → List ℕ
   all_of ys = map (λ y. y.1) (filter (λ y. p y.0) ys)
 
-  no_other : (r : Role) (x y : A) → f r ≡ Some x → f r ≡ Some y → p x ≡ false → p y ≡ true → ⊥
-  no_other r x y e g n t =
-      let same : x ≡ y = cc in
-      false_true (sym n ∙ ap p same ∙ t)
-
-  all_in : (ss : List Site) → AllByRecursion Shows ss → AllAt P ss (all_of (select f ss))
+  all_in : (ss : List Site) → AllByRecursion (Shows f p P) ss → AllAt P ss (all_of (select f ss))
   all_in [] a = refl
   all_in (s ∷ ss) a = go (f s.role) refl (all_in ss a.1)
     where
@@ -61,7 +45,7 @@ module _ {A : Type 0} (f : Role → Option A) (p : A → Bool) (P : Role → Typ
           ((x, s.at) ∷ filter (λ y. p y.0) (select f ss)) (filter (λ y. p y.0) (select f ss))))
       pick x e true t again = inl (yes s.role x e t, (all_of (select f ss), refl, again))
       pick x e false t again =
-          inr (λ q. let (y, g, u) = a.0 q in no_other s.role x y e g t u, again)
+          inr (λ q. let (y, g, u) = a.0 q in no_other f p s.role x y e g t u, again)
 
       go : (o : Option A) → f s.role ≡ o → AllAt P ss (all_of (select f ss)) →
           AllAt P (s ∷ ss) (all_of (each (λ x. (x, s.at) ∷ []) o ++ select f ss))
@@ -74,7 +58,8 @@ module _ {A : Type 0} (f : Role → Option A) (p : A → Bool) (P : Role → Typ
 
   module _ {X : Type 0} (v : X → A) (place : X → ℕ) (xs now : List X) (ps : List ℕ)
       (ss : List Site) (same : now ≡ xs) (seen : map (λ x. (v x, place x)) xs ≡ select f ss)
-      (is : ps ≡ map place (filter (λ x. p (v x)) now)) (all : AllByRecursion Shows ss) where
+      (is : ps ≡ map place (filter (λ x. p (v x)) now))
+      (all : AllByRecursion (Shows f p P) ss) where
     -- what a search finds are all sites at fault
     pub all_found : AllAt P ss ps
     all_found = subst (AllAt P ss) (sym (is

@@ -2,32 +2,33 @@
 use Rattle.std.proofs.Common.{ℕ, zero, suc, Bool, true, false, cond, nat_le, ◌≡◌, ◌≢◌, ◌<◌, ◌≤◌}
 use Rattle.std.proofs.Common.{◌⊎◌, inl, inr, List, [], ◌∷◌, ◌++◌, take, length, map, Option, Some}
 use Rattle.std.proofs.Common.{None, is_some, refl, sym, ◌∙◌, ap, subst, arith, get_or, append-nil}
-use Rattle.std.specs.List.{AllByRecursion, flat_map, slice_get}
+use Rattle.std.specs.List.{flat_map, slice_get}
 use Rattle.std.specs.Option.{option_map, unwrap_or}
 use Rattle.std.specs.Str.{bytes_eq}
 use Rattle.std.proofs.lemmas.Bool.{cases_eq}
 use Rattle.std.proofs.lemmas.Bool.Decides.{nat_tests}
 use Rattle.std.proofs.lemmas.List.{length-map}
 use Rattle.std.proofs.lemmas.Option.{get_or_from_slice_get, slice_get_within}
-use Rattle.youtline.specs.declared.mistake.Mistake.TheVariants as mistakes
-use Rattle.youtline.specs.declared.outline.Listed.{Listed}
-use Rattle.youtline.specs.declared.outline.Outline.{Outline}
-use Rattle.youtline.specs.Elaboration.{Listing, appearances, digits_number, first_or, listed_name}
-use Rattle.youtline.specs.Elaboration.{listings, option_list, own_number, said_of, tokens}
-use Rattle.youtline.specs.Elaboration.{usual_of}
-use Rattle.youtline.specs.Outline.{listed_view}
-use Rattle.youtline.specs.OutlineSites.{OutlineSites, is_of_rule, numbers_at}
-use Rattle.youtline.specs.Owned.{GivesWrong, HasFirst, IsFirstWrong, IsFit, OwnSoFar, fit_or_0}
-use Rattle.youtline.specs.Owned.{keep}
-use Rattle.youtline.specs.Owned.{small_number}
-use Rattle.youtline.specs.Places.{GivesBad, HoldsNumber, StandsAt, digits_of, given_in, select}
-use Rattle.youtline.specs.Printed.{printed_name}
-use Rattle.youtline.specs.Told.{AreAmong}
-use Rattle.youtline.proofs.GivenTables.{distinct_tokens}
-use Rattle.youtline.proofs.OwnSteps.{unfit}
-use Rattle.youtline.proofs.SiteSteps.{select_append}
-use Rattle.youtline.proofs.TellingSteps.{same_number}
-use Rattle.youtline.proofs.TokenSteps.{listed_token, token_among}
+use Rattle.ydeclarations.specs.declared.mistake.Mistake.TheVariants as mistakes
+use Rattle.ydeclarations.specs.declared.outline.Listed.{Listed}
+use Rattle.ydeclarations.specs.declared.outline.Outline.{Outline}
+use Rattle.ydeclarations.specs.Elaboration.{Listing, appearances, digits_number, first_or, listed_name}
+use Rattle.ydeclarations.specs.Elaboration.{listings, option_list, own_number, said_of, tokens}
+use Rattle.ydeclarations.specs.Elaboration.{usual_of}
+use Rattle.ydeclarations.specs.Outline.{listed_view}
+use Rattle.ydeclarations.specs.OutlineSites.{OutlineSites, is_of_rule, numbers_at}
+use Rattle.ydeclarations.specs.Owned.{GivesWrong, HasFirst, IsFirstWrong, IsFit, OwnSoFar, fit_or_0}
+use Rattle.ydeclarations.specs.Owned.{keep}
+use Rattle.ydeclarations.specs.Owned.{small_number}
+use Rattle.ydeclarations.specs.Places.{GivesBad, HoldsNumber, StandsAt, digits_of, given_in, select}
+use Rattle.ydeclarations.specs.Printed.{printed_name}
+use Rattle.ydeclarations.specs.Told.{AreAmong}
+use Rattle.ydeclarations.proofs.GivenTables.{distinct_tokens}
+use Rattle.ydeclarations.proofs.OwnSteps.{unfit}
+use Rattle.ydeclarations.proofs.SecondSteps.{none_of_rules}
+use Rattle.ydeclarations.proofs.SiteSteps.{select_append}
+use Rattle.ydeclarations.proofs.TellingSteps.{same_number}
+use Rattle.ydeclarations.proofs.TokenSteps.{listed_token, token_among}
 use Rattle.ysymbols.specs.Grammar.{greatest_number}
 use Rattle.ysymbols.specs.Names.{Name, is_among, number_in}
 use Rattle.ysymbols.proofs.NameSteps.{among_number, eq_self, false_true, number_among}
@@ -178,15 +179,9 @@ place_at (y ∷ xs) (suc i) x d e q = go y.digits (place_at xs i x d e q)
     go None w = w
     go (Some g) w = w
 
-no_digits_site : (rs : List Site) → AllByRecursion (λ s. is_of_rule s.role ≡ true) rs →
-    select digits_of rs ≡ []
-no_digits_site [] a = refl
-no_digits_site (s ∷ rs) a = go s.role s.at a.0 (no_digits_site rs a.1)
-  where
-    go : (r : Role) (at : ℕ) → is_of_rule r ≡ true → select digits_of rs ≡ [] →
-        select digits_of (record { role = r; at = at } ∷ rs) ≡ []
-    go (digits i) at w e = cc
-    go _ at w e = e
+no_digits : (r : Role) → is_of_rule r ≡ true → digits_of r ≡ None
+no_digits (digits i) w = cc
+no_digits _ w = refl
 
 abbrev is_several : Holders → Bool
 is_several Nobody = false
@@ -359,7 +354,7 @@ module _ (t : Tree) (xs : List Listed) (numbers : List (Option ℕ)) (fault : Op
     where
       places : select digits_of (ds ++ rs) ≡ flat_map numbers_at xs
       places = select_append digits_of ds rs ∙ ap (λ z. select digits_of ds ++ z)
-          (no_digits_site rs sites.of_rules) ∙ append-nil (select digits_of ds)
+          (none_of_rules digits_of no_digits rs sites.of_rules) ∙ append-nil (select digits_of ds)
           ∙ sym sites.numbers ∙ ap (λ (ys : List Listed). flat_map numbers_at ys) are
 
 -- ---- from what the calls ensure

@@ -2,15 +2,15 @@
 use Rattle.std.proofs.Common.{ℕ, suc, ◌≡◌, ◌++◌, ◌∷◌, [], inl, inr, refl, sym, subst, List, take}
 use Rattle.std.proofs.Common.{drop, Result, Err, Ok, IsErrAnd, length, ◌≤◌, ◌<◌}
 use Rattle.ygrammar.specs.declared.elaboration.Named.{Named}
-use Rattle.youtline.specs.declared.mistake.Mistake.{Mistake}
-use Rattle.youtline.specs.declared.mistake.Refused.{Refused}
-use Rattle.youtline.specs.declared.mistake.Refused.TheVariants as refused
-use Rattle.youtline.specs.declared.mistake.Mistake.TheVariants.{BadStart, Limit, Unproductive}
-use Rattle.youtline.specs.Elaboration.{bare_of, symbols, tokens}
+use Rattle.ydeclarations.specs.declared.mistake.Mistake.{Mistake}
+use Rattle.ydeclarations.specs.declared.mistake.Refused.{Refused}
+use Rattle.ydeclarations.specs.declared.mistake.Refused.TheVariants as refused
+use Rattle.ydeclarations.specs.declared.mistake.Mistake.TheVariants.{BadStart, Limit, Unproductive}
+use Rattle.ydeclarations.specs.Elaboration.{bare_of, symbols, tokens}
 use Rattle.ysymbols.specs.Forms.{Productive}
 use Rattle.ygrammar.specs.Elaborated.{AreNamed, Decides, IsFirstRefused}
-use Rattle.youtline.specs.Mistakes.{HasNone, Holds, IsFirst, order}
-use Rattle.youtline.specs.Owned.{Clears, Refuses}
+use Rattle.ydeclarations.specs.Mistakes.{HasNone, Holds, IsFirst, order}
+use Rattle.ydeclarations.specs.Owned.{Clears, Refuses}
 use Rattle.ysyntax.specs.Tree.{Tree}
 use Rattle.ygrammar.proofs.MeaningSteps.{none_barren}
 

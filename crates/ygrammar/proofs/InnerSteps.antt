@@ -10,7 +10,7 @@ use Rattle.ysyntax.specs.declared.tree.BodyPart.TheVariants as items
 use Rattle.ysyntax.specs.declared.tree.BracedText.{BracedText}
 use Rattle.ysyntax.specs.declared.tree.RuleText.{RuleText as CodeRuleText}
 use Rattle.ysyntax.specs.TreeViews.{body_part_view, rule_text_view}
-use Rattle.youtline.specs.Elaboration.{Body, Rule, body_from, final_of, split_last}
+use Rattle.ydeclarations.specs.Elaboration.{Body, Rule, body_from, final_of, split_last}
 use Rattle.ysymbols.specs.Grammar.{RuleValue}
 use Rattle.ysymbols.specs.Names.{Name}
 use Rattle.ylexemes.specs.Lexemes.{Lexeme, fixed}
@@ -71,14 +71,17 @@ part_read : (cs : List CodeBodyPart) (i : ℕ) (d : CodeBodyPart) → i < length
 part_read cs i d h = ap (λ (ys : List CodeBodyPart). map body_part_view ys) (drop_more cs i d h)
 
 -- what a part adds, and what is left to be added behind it
-pushed : {A B : Type 0} (f : A → B) (adds : Body → List A) → ((k : ℕ) (x : BodyPart)
-    (xs : List BodyPart) → adds (body_from k (x ∷ xs)) ≡ adds (body_from k (x ∷ []))
-    ++ adds (body_from (body_from k (x ∷ [])).next xs)) → (cs : List CodeBodyPart) (i k n : ℕ)
-    (d : CodeBodyPart) (old new all : List B) → i < length cs →
+abbrev Pushes : {A B : Type 0} → (A → B) → (Body → List A) → Type 0
+Pushes {A} {B} f adds = (cs : List CodeBodyPart) (i k n : ℕ) (d : CodeBodyPart)
+    (old new all : List B) → i < length cs →
     n ≡ (body_from k (body_part_view (get_or cs i d) ∷ [])).next →
     new ≡ old ++ map f (adds (body_from k (body_part_view (get_or cs i d) ∷ []))) →
     old ++ map f (adds (body_from k (map body_part_view (drop i cs)))) ≡ all →
     new ++ map f (adds (body_from n (map body_part_view (drop (i + 1) cs)))) ≡ all
+
+pushed : {A B : Type 0} (f : A → B) (adds : Body → List A) → ((k : ℕ) (x : BodyPart)
+    (xs : List BodyPart) → adds (body_from k (x ∷ xs)) ≡ adds (body_from k (x ∷ []))
+    ++ adds (body_from (body_from k (x ∷ [])).next xs)) → Pushes f adds
 pushed {A = A} {B = B} f adds step cs i k n d old new all h e g w =
     let x : BodyPart = body_part_view (get_or cs i d) in
     let rest : List BodyPart = map body_part_view (drop (i + 1) cs) in
@@ -94,20 +97,10 @@ pushed {A = A} {B = B} f adds step cs i k n d old new all h e g w =
     (sym (map-append f here left) ∙ ap (λ (ys : List A). map f ys) all_of)
     ∙ w
 
-pub inner_pushed : (f : Rule → RuleValue) (cs : List CodeBodyPart) (i k n : ℕ) (d : CodeBodyPart)
-    (old new all : List RuleValue) → i < length cs →
-    n ≡ (body_from k (body_part_view (get_or cs i d) ∷ [])).next →
-    new ≡ old ++ map f (body_from k (body_part_view (get_or cs i d) ∷ [])).inner →
-    old ++ map f (body_from k (map body_part_view (drop i cs))).inner ≡ all →
-    new ++ map f (body_from n (map body_part_view (drop (i + 1) cs))).inner ≡ all
+pub inner_pushed : (f : Rule → RuleValue) → Pushes f (λ (b : Body). b.inner)
 inner_pushed f = pushed f (λ (b : Body). b.inner) step_inner
 
-pub symbols_pushed : (f : Name → ℕ) (cs : List CodeBodyPart) (i k n : ℕ) (d : CodeBodyPart)
-    (old new all : List ℕ) → i < length cs →
-    n ≡ (body_from k (body_part_view (get_or cs i d) ∷ [])).next →
-    new ≡ old ++ map f (body_from k (body_part_view (get_or cs i d) ∷ [])).symbols →
-    old ++ map f (body_from k (map body_part_view (drop i cs))).symbols ≡ all →
-    new ++ map f (body_from n (map body_part_view (drop (i + 1) cs))).symbols ≡ all
+pub symbols_pushed : (f : Name → ℕ) → Pushes f (λ (b : Body). b.symbols)
 symbols_pushed f = pushed f (λ (b : Body). b.symbols) step_symbols
 
 -- where no part is left, all is added

@@ -7,8 +7,8 @@ use Rattle.std.proofs.lemmas.Bool.Decides.{nat_tests}
 use Rattle.std.proofs.lemmas.List.Elements.{All-from_recursion, recursion_from_All}
 use Rattle.std.proofs.lemmas.List.Sums.{fold-append}
 use Rattle.ysymbols.specs.declared.precedence.Precedence.{Precedence}
-use Rattle.youtline.specs.Elaboration.{HavePrecedences, IsChosenToken, IsLastToken, Rule}
-use Rattle.youtline.specs.Elaboration.{precedence_at}
+use Rattle.ydeclarations.specs.Elaboration.{HavePrecedences, IsChosenToken, IsLastToken, Rule}
+use Rattle.ydeclarations.specs.Elaboration.{precedence_at}
 use Rattle.ysymbols.specs.Names.{Name, number_in}
 use Rattle.ygrammar.specs.Numbered.{chosen_token, last_token, rule_precedence}
 use Rattle.ysyntax.specs.Tree.{Identifier}

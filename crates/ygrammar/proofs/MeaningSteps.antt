@@ -5,33 +5,33 @@ use Rattle.std.proofs.Common.{arith}
 use Rattle.std.proofs.lemmas.List.{length-map}
 use Rattle.std.proofs.lemmas.List.Elements.{All-get_or}
 use Rattle.ygrammar.specs.declared.elaboration.Named.{Named}
-use Rattle.youtline.specs.declared.outline.Outline.{Outline}
+use Rattle.ydeclarations.specs.declared.outline.Outline.{Outline}
 use Rattle.ysyntax.specs.declared.tree.RuleText.{RuleText as CodeRuleText}
 use Rattle.ysyntax.specs.declared.tree.Tree.{Tree as CodeTree}
-use Rattle.youtline.specs.Outline.{Outlines, start_view}
+use Rattle.ydeclarations.specs.Outline.{Outlines, start_view}
 use Rattle.ysyntax.specs.TreeViews.{rule_text_view, name_view, tree_view}
 use Rattle.ysymbols.proofs.NameSteps.{false_true, length_texts}
-use Rattle.youtline.specs.declared.mistake.Mistake.TheVariants.{BadStart, Undefined}
-use Rattle.youtline.specs.declared.mistake.Mistake.TheVariants.{Unproductive}
-use Rattle.youtline.specs.declared.mistake.Refused.{Refused}
-use Rattle.youtline.specs.declared.mistake.Refused.TheVariants as refused
+use Rattle.ydeclarations.specs.declared.mistake.Mistake.TheVariants.{BadStart, Undefined}
+use Rattle.ydeclarations.specs.declared.mistake.Mistake.TheVariants.{Unproductive}
+use Rattle.ydeclarations.specs.declared.mistake.Refused.{Refused}
+use Rattle.ydeclarations.specs.declared.mistake.Refused.TheVariants as refused
 use Rattle.ysymbols.specs.declared.precedence.Precedence.{Precedence}
 use Rattle.ygrammar.specs.Elaborated.{AreNamed, Fruitful, IsReady}
-use Rattle.youtline.specs.Elaboration.{HavePrecedences, Rule, bare_of, first_rule, lefts}
-use Rattle.youtline.specs.Elaboration.{numbered_rule}
-use Rattle.youtline.specs.Elaboration.{own_number, own_numbers, token_precedence, rules}
-use Rattle.youtline.specs.Elaboration.{rules_from, starts, symbols, token_precedences, tokens}
+use Rattle.ydeclarations.specs.Elaboration.{HavePrecedences, Rule, bare_of, first_rule, lefts}
+use Rattle.ydeclarations.specs.Elaboration.{numbered_rule}
+use Rattle.ydeclarations.specs.Elaboration.{own_number, own_numbers, token_precedence, rules}
+use Rattle.ydeclarations.specs.Elaboration.{rules_from, starts, symbols, token_precedences, tokens}
 use Rattle.ysymbols.specs.Forms.{IsReachable, Productive}
 use Rattle.ysymbols.specs.Grammar.{ContextFree, Production, RuleValue, blank, precedence_of}
 use Rattle.ysymbols.specs.Grammar.{most_symbols, production_of}
 use Rattle.ysymbols.specs.Marking.{AreIn, IsMarked, RuleIn, numbered_grammar, rule_at}
 use Rattle.ygrammar.specs.Meaning.{IsMeaning}
-use Rattle.youtline.specs.Mistakes.{HasNone, Holds, order}
+use Rattle.ydeclarations.specs.Mistakes.{HasNone, Holds, order}
 use Rattle.ysymbols.specs.Names.{Name}
 use Rattle.ysymbols.specs.NameTexts.{texts, value_of}
 use Rattle.ygrammar.specs.Numbered.{rule_numbers, rule_precedence}
 use Rattle.ygrammar.specs.Numbers.{AreNumbers}
-use Rattle.youtline.specs.Owned.{Refuses}
+use Rattle.ydeclarations.specs.Owned.{Refuses}
 use Rattle.ygrammar.specs.Texts.{kept_text}
 use Rattle.ysyntax.specs.Tree.{RuleText, Identifier, IsTree, Tree}
 use Rattle.ysymbols.specs.WellFormed.{IsWhole, StandOnce, WellFormed}

@@ -6,23 +6,23 @@ use Rattle.std.proofs.Common.{if◌then◌else◌}
 use Rattle.std.specs.List.{Contains, find, list_any}
 use Rattle.std.proofs.lemmas.Bool.Decides.{nat_tests}
 use Rattle.std.proofs.lemmas.List.{length-map}
-use Rattle.youtline.specs.declared.mistake.Mistake.TheVariants.{BadPrec, BadStart, Limit}
-use Rattle.youtline.specs.declared.mistake.Mistake.TheVariants.{TokenLeft}
-use Rattle.youtline.specs.declared.mistake.Mistake.TheVariants.{Undefined}
-use Rattle.youtline.specs.Elaboration.{Rule, is_nonterminal, is_token, lefts, precs, rule_left}
-use Rattle.youtline.specs.Elaboration.{rules, starts, symbols, token_precedences, tokens, types_of}
-use Rattle.youtline.specs.Elaboration.{uses}
+use Rattle.ydeclarations.specs.declared.mistake.Mistake.TheVariants.{BadPrec, BadStart, Limit}
+use Rattle.ydeclarations.specs.declared.mistake.Mistake.TheVariants.{TokenLeft}
+use Rattle.ydeclarations.specs.declared.mistake.Mistake.TheVariants.{Undefined}
+use Rattle.ydeclarations.specs.Elaboration.{Rule, is_nonterminal, is_token, lefts, precs, rule_left}
+use Rattle.ydeclarations.specs.Elaboration.{rules, starts, symbols, token_precedences, tokens, types_of}
+use Rattle.ydeclarations.specs.Elaboration.{uses}
 use Rattle.ysymbols.specs.Grammar.{RuleValue, longest_body, most_rules, most_symbols}
-use Rattle.youtline.specs.Mistakes.{Holds}
+use Rattle.ydeclarations.specs.Mistakes.{Holds}
 use Rattle.ysymbols.specs.Names.{Name, is_among, number_in}
-use Rattle.youtline.specs.Printed.{printed_name}
+use Rattle.ydeclarations.specs.Printed.{printed_name}
 use Rattle.ygrammar.specs.Numbered.{is_between, is_long, rule_numbers}
 use Rattle.ysyntax.specs.Tree.{Identifier, Tree}
 use Rattle.ysymbols.specs.Sources.{option_view}
 use Rattle.ysymbols.proofs.NameSteps.{false_true}
-use Rattle.youtline.proofs.TokenSteps.{noted_behind, number_behind}
+use Rattle.ydeclarations.proofs.TokenSteps.{noted_behind, number_behind}
 use Rattle.ysymbols.proofs.NameSteps.{among_number, number_among}
-use Rattle.youtline.proofs.TokenSteps.{number_stays, token_among}
+use Rattle.ydeclarations.proofs.TokenSteps.{number_stays, token_among}
 use Rattle.std.proofs.lemmas.Bool.{cases_lt, or_cases}
 
 or_none : (a b : Bool) → (a || b) ≡ false → (a ≡ false) × (b ≡ false)

@@ -3,7 +3,7 @@ use Rattle.std.proofs.Common.{filter, Bool, ◌≡◌, cond, List, [], ◌∷◌
 use Rattle.std.proofs.lemmas.List.Elements.{filter-append}
 use Rattle.std.proofs.lemmas.List.{map-append}
 use Rattle.ysymbols.specs.Names.{Name, is_among, with_names}
-use Rattle.youtline.specs.Printed.{printed_name}
+use Rattle.ydeclarations.specs.Printed.{printed_name}
 use Rattle.ysyntax.specs.Tree.{Identifier}
 use Rattle.ysymbols.proofs.NameSteps.{all_append, among_all}
 

@@ -8,10 +8,10 @@ use Rattle.std.specs.Option.{unwrap_or}
 use Rattle.std.proofs.lemmas.Bool.{cases_eq}
 use Rattle.std.proofs.lemmas.List.{length-map}
 use Rattle.std.proofs.lemmas.Option.{slice_get-get_or, slice_get_within}
-use Rattle.youtline.specs.declared.outline.Listed.{Listed}
-use Rattle.youtline.specs.Elaboration.{Listing, digits_number, listed_name}
-use Rattle.youtline.specs.Outline.{listed_view}
-use Rattle.youtline.specs.Owned.{IsFit}
+use Rattle.ydeclarations.specs.declared.outline.Listed.{Listed}
+use Rattle.ydeclarations.specs.Elaboration.{Listing, digits_number, listed_name}
+use Rattle.ydeclarations.specs.Outline.{listed_view}
+use Rattle.ydeclarations.specs.Owned.{IsFit}
 use Rattle.ygrammar.specs.declared.holders.Holders.{Holders}
 use Rattle.ygrammar.specs.declared.holders.Holders.TheVariants.{Nobody, Several}
 use Rattle.ygrammar.specs.Numbers.{FaultyAt, HasNumber, IsFaulty, IsHolders, with_holder}
@@ -19,7 +19,7 @@ use Rattle.ysymbols.specs.Names.{Name, number_in}
 use Rattle.ysyntax.specs.declared.tree.Digits.{Digits}
 use Rattle.ysymbols.proofs.NameSteps.{false_true}
 use Rattle.ysymbols.proofs.Numbers.{below_or_last}
-use Rattle.youtline.proofs.WrongSteps.{same_read, seen_there}
+use Rattle.ydeclarations.proofs.WrongSteps.{same_read, seen_there}
 use Rattle.ygrammar.proofs.NumberSteps.{one_more, same_holders}
 
 no_number : (l : Listing) → digits_number l ≡ None → (m : ℕ) → digits_number l ≡ Some m →

@@ -10,7 +10,7 @@ use Rattle.std.proofs.lemmas.Option.{slice_get_within, slice_get-get_or}
 use Rattle.ygrammar.specs.declared.holders.Holders.{Holders}
 use Rattle.ygrammar.specs.declared.holders.Holders.TheVariants.{Nobody, One, Several}
 use Rattle.ysymbols.specs.Grammar.{number_bound}
-use Rattle.youtline.specs.Mistakes.{Clashes}
+use Rattle.ydeclarations.specs.Mistakes.{Clashes}
 use Rattle.ygrammar.specs.Numbers.{AreHolders, AreNumbers, IsHolders, IsLeast, IsOwn}
 use Rattle.ygrammar.specs.Numbers.{is_held, with_holder}
 use Rattle.ysymbols.proofs.NameSteps.{false_true}

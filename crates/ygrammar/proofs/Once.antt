@@ -4,18 +4,18 @@ use Rattle.std.proofs.Common.{Some, None, codes, refl, sym, ◌∙◌, ap, subst
 use Rattle.std.specs.List.{slice_get}
 use Rattle.std.proofs.lemmas.Bool.{cases_order}
 use Rattle.std.proofs.lemmas.Option.{get_or_from_slice_get, slice_get-get_or, slice_get_within}
-use Rattle.youtline.specs.declared.mistake.Mistake.TheVariants.{BadNumber}
-use Rattle.youtline.specs.Elaboration.{appearances, listings, own_numbers, rule_left, rules}
-use Rattle.youtline.specs.Elaboration.{symbols, token_names_of, tokens}
-use Rattle.youtline.specs.Mistakes.{Clashes, HasNone, Holds, order}
+use Rattle.ydeclarations.specs.declared.mistake.Mistake.TheVariants.{BadNumber}
+use Rattle.ydeclarations.specs.Elaboration.{appearances, listings, own_numbers, rule_left, rules}
+use Rattle.ydeclarations.specs.Elaboration.{symbols, token_names_of, tokens}
+use Rattle.ydeclarations.specs.Mistakes.{Clashes, HasNone, Holds, order}
 use Rattle.ysymbols.specs.Names.{Name, is_among, with_names, number_in}
-use Rattle.youtline.specs.Printed.{printed_name}
+use Rattle.ydeclarations.specs.Printed.{printed_name}
 use Rattle.ygrammar.specs.Numbers.{AreNumbers}
 use Rattle.ysyntax.specs.Tree.{Tree}
 use Rattle.ysymbols.specs.WellFormed.{StandOnce}
 use Rattle.ygrammar.proofs.NumberSteps.{some_one}
-use Rattle.youtline.proofs.GivenTables.{distinct_tokens}
-use Rattle.youtline.proofs.TokenSteps.{Distinct, distinct_all, noted_behind}
+use Rattle.ydeclarations.proofs.GivenTables.{distinct_tokens}
+use Rattle.ydeclarations.proofs.TokenSteps.{Distinct, distinct_all, noted_behind}
 
 -- ---- names
 

@@ -4,13 +4,12 @@ use Rattle.std.proofs.Common.{List, [], ◌∷◌, length, Option, Some, None, r
 use Rattle.std.proofs.Common.{arith, get_or}
 use Rattle.std.specs.List.{slice_get}
 use Rattle.std.proofs.lemmas.Bool.{cases_order}
-use Rattle.youtline.specs.declared.mistake.Mistake.{Mistake}
-use Rattle.ysymbols.specs.declared.precedence.Precedence.{Precedence}
-use Rattle.youtline.specs.Elaboration.{bare_of, own_numbers, rules, symbols, token_precedences}
+use Rattle.ydeclarations.specs.declared.mistake.Mistake.{Mistake}
+use Rattle.ydeclarations.specs.Elaboration.{bare_of, own_numbers, rules, symbols, token_precedences}
 use Rattle.ysymbols.specs.Forms.{IsReachable}
-use Rattle.ysymbols.specs.Grammar.{ContextFree, GrammarValue}
+use Rattle.ysymbols.specs.Grammar.{GrammarValue}
 use Rattle.ygrammar.specs.Meaning.{IsMeaning}
-use Rattle.youtline.specs.Mistakes.{HasNone, Holds, IsFirst}
+use Rattle.ydeclarations.specs.Mistakes.{HasNone, Holds, IsFirst}
 use Rattle.ygrammar.specs.Numbers.{AreNumbers, IsLeast, IsOwn}
 use Rattle.ysyntax.specs.Tree.{Tree}
 use Rattle.ygrammar.proofs.LastTokens.{one_precedences}
@@ -113,41 +112,24 @@ one_marks P n (x ∷ xs) (y ∷ ys) a b f g =
 
 -- ---- the meaning
 
-abbrev value : ContextFree → List (List ℕ) → List ℕ → List (Option Precedence) →
-    List (Option Precedence) → List (Option (List ℕ)) → List Bool → GrammarValue
-value b n m p q x r = record {
-  bare = b;
-  names = n;
-  numbers = m;
-  token_precedences = p;
-  rule_precedences = q;
-  texts = x;
-  reachable = r;
-}
-
-same_value : (g h : GrammarValue) → g.bare ≡ h.bare → g.names ≡ h.names → g.numbers ≡ h.numbers →
-    g.token_precedences ≡ h.token_precedences → g.rule_precedences ≡ h.rule_precedences →
-    g.texts ≡ h.texts → g.reachable ≡ h.reachable → g ≡ h
-same_value g h a b c d e f i =
-    ap (λ z. value z g.names g.numbers g.token_precedences g.rule_precedences g.texts g.reachable) a
-    ∙ ap (λ z. value h.bare z g.numbers g.token_precedences g.rule_precedences g.texts g.reachable)
-    b
-    ∙ ap (λ z. value h.bare h.names z g.token_precedences g.rule_precedences g.texts g.reachable) c
-    ∙ ap (λ z. value h.bare h.names h.numbers z g.rule_precedences g.texts g.reachable) d
-    ∙ ap (λ z. value h.bare h.names h.numbers h.token_precedences z g.texts g.reachable) e
-    ∙ ap (λ z. value h.bare h.names h.numbers h.token_precedences h.rule_precedences z g.reachable)
-    f
-    ∙ ap (λ z. value h.bare h.names h.numbers h.token_precedences h.rule_precedences h.texts z) i
-
 -- a tree means one grammar
 pub one_meaning : (t : Tree) (g h : GrammarValue) → IsMeaning t g → IsMeaning t h → g ≡ h
-one_meaning t g h x y = same_value g h (x.bare ∙ sym y.bare) (x.names ∙ sym y.names)
-    (one_numbers (own_numbers t) g.numbers h.numbers x.numbers y.numbers)
-    (x.precedences ∙ sym y.precedences) (one_precedences (symbols t) (token_precedences t)
-    (rules t) g.rule_precedences x.of_rules ∙ sym (one_precedences (symbols t) (token_precedences t)
-    (rules t) h.rule_precedences y.of_rules)) (x.texts ∙ sym y.texts)
-    (one_marks (IsReachable (bare_of t)) (length (symbols t)) g.reachable h.reachable
-    x.reachable.each y.reachable.each x.reachable.exact y.reachable.exact)
+one_meaning t g h x y =
+    let numbers = one_numbers (own_numbers t) g.numbers h.numbers x.numbers y.numbers in
+    let precedences = one_precedences (symbols t) (token_precedences t) (rules t)
+    g.rule_precedences x.of_rules ∙ sym (one_precedences (symbols t) (token_precedences t)
+    (rules t) h.rule_precedences y.of_rules) in
+    let reachable = one_marks (IsReachable (bare_of t)) (length (symbols t)) g.reachable
+    h.reachable x.reachable.each y.reachable.each x.reachable.exact y.reachable.exact in
+    λ i. record {
+      bare = (x.bare ∙ sym y.bare) i;
+      names = (x.names ∙ sym y.names) i;
+      numbers = numbers i;
+      token_precedences = (x.precedences ∙ sym y.precedences) i;
+      rule_precedences = precedences i;
+      texts = (x.texts ∙ sym y.texts) i;
+      reachable = reachable i;
+    }
 
 -- ---- the first mistake
 

@@ -4,22 +4,22 @@ use Rattle.std.proofs.Common.{Option, Some, None, refl, sym, ◌∙◌, ap}
 use Rattle.std.proofs.Common.{subst, arith, get_or, false, is_some, true}
 use Rattle.std.specs.List.{Contains, flat_map}
 use Rattle.std.proofs.lemmas.Option.{get_or_from_slice_get}
-use Rattle.youtline.specs.declared.mistake.Mistake.TheVariants as mistakes
-use Rattle.youtline.specs.Elaboration.{Listing, appearances, identifiers_of, uses, digits_number}
-use Rattle.youtline.specs.Elaboration.{first_or, listings, option_list, own_number}
-use Rattle.youtline.specs.Elaboration.{own_numbers, said_of}
-use Rattle.youtline.specs.Elaboration.{tokens}
-use Rattle.youtline.specs.Elaboration.{usual_of}
-use Rattle.youtline.specs.Mistakes.{Clashes, Holds}
+use Rattle.ydeclarations.specs.declared.mistake.Mistake.TheVariants as mistakes
+use Rattle.ydeclarations.specs.Elaboration.{Listing, appearances, identifiers_of, uses, digits_number}
+use Rattle.ydeclarations.specs.Elaboration.{first_or, listings, option_list, own_number}
+use Rattle.ydeclarations.specs.Elaboration.{own_numbers, said_of}
+use Rattle.ydeclarations.specs.Elaboration.{tokens}
+use Rattle.ydeclarations.specs.Elaboration.{usual_of}
+use Rattle.ydeclarations.specs.Mistakes.{Clashes, Holds}
 use Rattle.ysymbols.specs.Names.{Name, number_in}
 use Rattle.ysymbols.specs.Grammar.{number_bound, greatest_number}
 use Rattle.ygrammar.specs.Numbers.{IsOwn}
-use Rattle.youtline.specs.Owned.{AllFit, AllSmall, IsFit, OwnSoFar, TellsNumbers, keep}
-use Rattle.youtline.specs.Told.{IsTold}
+use Rattle.ydeclarations.specs.Owned.{AllFit, AllSmall, IsFit, OwnSoFar, TellsNumbers, keep}
+use Rattle.ydeclarations.specs.Told.{IsTold}
 use Rattle.ysyntax.specs.Tree.{Identifier, Tree}
 use Rattle.ysymbols.proofs.NameSteps.{false_true}
-use Rattle.youtline.proofs.TokenSteps.{by_numbers}
-use Rattle.youtline.proofs.GivenTables.{distinct_tokens, not_twice, said_token}
+use Rattle.ydeclarations.proofs.TokenSteps.{by_numbers}
+use Rattle.ydeclarations.proofs.GivenTables.{distinct_tokens, not_twice, said_token}
 
 pub own_start : (t : Tree) (table : List (Option ℕ)) → IsTold digits_number (tokens t)
     (listings t) table → OwnSoFar (tokens t) table (usual_of (appearances t)) (own_number t)

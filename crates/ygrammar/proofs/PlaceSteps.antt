@@ -10,20 +10,20 @@ use Rattle.ysymbols.specs.Marking.{IsMarked}
 use Rattle.ysymbols.specs.Names.{Name, is_among, number_in}
 use Rattle.ysymbols.specs.Sources.{option_view}
 use Rattle.ysymbols.proofs.NameSteps.{false_true}
-use Rattle.youtline.specs.declared.mistake.Refused.{Refused}
-use Rattle.youtline.specs.declared.mistake.Refused.TheVariants as refused
-use Rattle.youtline.specs.declared.outline.Outline.{Outline}
-use Rattle.youtline.specs.declared.outline.Started.{Started}
-use Rattle.youtline.specs.Elaboration.{bare_of, is_nonterminal, is_token, lefts, symbols, tokens}
-use Rattle.youtline.specs.OutlineSites.{IsPlaced, OutlineSites, is_of_rule, left_of, name_at}
-use Rattle.youtline.specs.OutlineSites.{prec_of, start_at, typed_of, use_of}
-use Rattle.youtline.specs.Places.{AllAt, FirstAt, IsBarren, is_bad_prec, is_token_left, is_undefined}
-use Rattle.youtline.specs.Places.{last_start, select, start_of}
-use Rattle.youtline.specs.Printed.{printed_name}
-use Rattle.youtline.proofs.PlaceSteps.{all_map, first_behind, first_front, found_in, last_seen}
-use Rattle.youtline.proofs.PlaceSteps.{none_found}
-use Rattle.youtline.proofs.SiteSteps.{select_append}
-use Rattle.youtline.proofs.TokenSteps.{token_among}
+use Rattle.ydeclarations.specs.declared.mistake.Refused.{Refused}
+use Rattle.ydeclarations.specs.declared.mistake.Refused.TheVariants as refused
+use Rattle.ydeclarations.specs.declared.outline.Outline.{Outline}
+use Rattle.ydeclarations.specs.declared.outline.Started.{Started}
+use Rattle.ydeclarations.specs.Elaboration.{bare_of, is_nonterminal, is_token, lefts, symbols, tokens}
+use Rattle.ydeclarations.specs.OutlineSites.{IsPlaced, OutlineSites, is_of_rule, left_of, name_at}
+use Rattle.ydeclarations.specs.OutlineSites.{prec_of, start_at, typed_of, use_of}
+use Rattle.ydeclarations.specs.Places.{AllAt, FirstAt, IsBarren, is_bad_prec, is_token_left, is_undefined}
+use Rattle.ydeclarations.specs.Places.{last_start, select, start_of}
+use Rattle.ydeclarations.specs.Printed.{printed_name}
+use Rattle.ydeclarations.proofs.PlaceSteps.{all_map, first_behind, first_front, found_in, last_seen}
+use Rattle.ydeclarations.proofs.PlaceSteps.{none_found}
+use Rattle.ydeclarations.proofs.SiteSteps.{select_append}
+use Rattle.ydeclarations.proofs.TokenSteps.{token_among}
 use Rattle.ysyntax.specs.declared.tree.NameAt.{NameAt}
 use Rattle.ysyntax.specs.declared.tree.Occurrence.{Occurrence}
 use Rattle.ysyntax.specs.Sites.{Role, Site, start_word, used, prec_name, typed, left_side}

@@ -6,14 +6,14 @@ use Rattle.std.specs.Result.{IsErrOf}
 use Rattle.ysyntax.specs.Answers.{FailsAt, IsOutcome, views}
 use Rattle.ysyntax.specs.declared.fault.GrammarFault.{GrammarFault}
 use Rattle.ysyntax.specs.declared.fault.GrammarFault.TheVariants as faults
-use Rattle.youtline.specs.declared.mistake.Mistake.{Mistake}
-use Rattle.youtline.specs.declared.mistake.Mistake.TheVariants.{TokenLeft, Undefined}
-use Rattle.youtline.specs.declared.mistake.Mistake.TheVariants.{TwicePrecedence, BadNumber}
-use Rattle.youtline.specs.declared.mistake.Mistake.TheVariants.{BadStart, Unproductive}
-use Rattle.youtline.specs.declared.mistake.Mistake.TheVariants.{BadPrec}
-use Rattle.youtline.specs.declared.mistake.Mistake.TheVariants.{Limit}
-use Rattle.youtline.specs.declared.mistake.Refused.{Refused}
-use Rattle.youtline.specs.declared.mistake.Refused.TheVariants as refused
+use Rattle.ydeclarations.specs.declared.mistake.Mistake.{Mistake}
+use Rattle.ydeclarations.specs.declared.mistake.Mistake.TheVariants.{TokenLeft, Undefined}
+use Rattle.ydeclarations.specs.declared.mistake.Mistake.TheVariants.{TwicePrecedence, BadNumber}
+use Rattle.ydeclarations.specs.declared.mistake.Mistake.TheVariants.{BadStart, Unproductive}
+use Rattle.ydeclarations.specs.declared.mistake.Mistake.TheVariants.{BadPrec}
+use Rattle.ydeclarations.specs.declared.mistake.Mistake.TheVariants.{Limit}
+use Rattle.ydeclarations.specs.declared.mistake.Refused.{Refused}
+use Rattle.ydeclarations.specs.declared.mistake.Refused.TheVariants as refused
 use Rattle.ysyntax.specs.declared.lexer.Placed.{Placed}
 use Rattle.ysyntax.specs.declared.fault.PlacedFault.{PlacedFault}
 use Rattle.ysyntax.specs.Placing.{placed_fault, too_long}
@@ -33,11 +33,11 @@ use Rattle.ygrammar.specs.GrammarOf.{line_in, line_of}
 use Rattle.ygrammar.specs.GrammarOf.{mistake_at}
 use Rattle.ylexemes.specs.Lexemes.{Lexeme}
 use Rattle.ygrammar.specs.Meaning.{IsMeaning}
-use Rattle.youtline.specs.Mistakes.{IsFirst, order}
+use Rattle.ydeclarations.specs.Mistakes.{IsFirst, order}
 use Rattle.ysyntax.specs.Tree.{IsTree, Tree, yield}
 use Rattle.ygrammar.proofs.OneMeaning.{none_first, one_first, one_meaning}
-use Rattle.youtline.specs.OutlineSites.{IsPlaced}
-use Rattle.youtline.specs.Places.{FirstAt, IsBarren, StandsAt}
+use Rattle.ydeclarations.specs.OutlineSites.{IsPlaced}
+use Rattle.ydeclarations.specs.Places.{FirstAt, IsBarren, StandsAt}
 use Rattle.ysyntax.specs.declared.tree.Tree.{Tree as CodeTree}
 use Rattle.ysyntax.specs.Sites.{AreSites, Site, StandFrom}
 use Rattle.ysyntax.specs.SiteViews.{marks_in, named_in, site_marks, tree_sites}

@@ -1,39 +1,31 @@
 -- Bodies, their final actions, and rules by number.
 use Rattle.std.proofs.Common.{ℕ, suc, ◌≡◌, List, [], ◌∷◌, ◌++◌, map, Option, Some, None, refl, sym}
-use Rattle.std.proofs.Common.{◌∙◌, ap, append_assoc, length}
+use Rattle.std.proofs.Common.{◌∙◌, ap, append_assoc, append-nil, length}
 use Rattle.std.proofs.lemmas.List.{map-append}
 use Rattle.ysyntax.specs.declared.tree.BodyPart.{BodyPart as CodeBodyPart}
 use Rattle.ysyntax.specs.declared.tree.BracedText.{BracedText}
 use Rattle.ysyntax.specs.declared.tree.BodyPart.TheVariants as items
 use Rattle.ysyntax.specs.declared.tree.Occurrence.{Occurrence}
-use Rattle.ysyntax.specs.Tree.{BodyPart, symbol, action, Identifier, RuleText}
+use Rattle.ysyntax.specs.Tree.{BodyPart, symbol, action, RuleText}
 use Rattle.ysyntax.specs.TreeViews.{braced_view, body_part_view, occurrence_view}
 use Rattle.ysymbols.specs.Sources.{option_view}
-use Rattle.youtline.specs.Elaboration.{split_last, final_of, Body, Rule, body_from, inner_rule}
-use Rattle.youtline.specs.Elaboration.{or_else, precedence_at, rules_from}
+use Rattle.ydeclarations.specs.Elaboration.{split_last, final_of, Body, Rule, body_from, inner_rule}
+use Rattle.ydeclarations.specs.Elaboration.{or_else, precedence_at, rules_from}
 use Rattle.ysymbols.specs.declared.precedence.Precedence.{Precedence}
 use Rattle.ysymbols.specs.Names.{Name, number_in}
 use Rattle.ygrammar.specs.Numbered.{chosen_token, inner_numbers, rule_numbers, rule_precedence}
 use Rattle.ysymbols.specs.Grammar.{RuleValue}
 
-last_action : (xs : List BodyPart) (t : List ℕ) → split_last (xs ++ action t ∷ []) ≡ (xs, Some t)
-last_action [] t = refl
-last_action (symbol i ∷ []) t = refl
-last_action (action u ∷ []) t = refl
-last_action (symbol i ∷ (y ∷ xs)) t = ap (λ (r : List BodyPart × Option (List ℕ)).
-    (symbol i ∷ r.0, r.1)) (last_action (y ∷ xs) t)
-last_action (action u ∷ (y ∷ xs)) t = ap (λ (r : List BodyPart × Option (List ℕ)).
-    (action u ∷ r.0, r.1)) (last_action (y ∷ xs) t)
-
-last_symbol : (xs : List BodyPart) (i : Identifier) → split_last (xs ++ symbol i ∷ []) ≡
-    (xs ++ symbol i ∷ [], None)
-last_symbol [] i = refl
-last_symbol (symbol j ∷ []) i = refl
-last_symbol (action u ∷ []) i = refl
-last_symbol (symbol j ∷ (y ∷ xs)) i = ap (λ (r : List BodyPart × Option (List ℕ)).
-    (symbol j ∷ r.0, r.1)) (last_symbol (y ∷ xs) i)
-last_symbol (action u ∷ (y ∷ xs)) i = ap (λ (r : List BodyPart × Option (List ℕ)).
-    (action u ∷ r.0, r.1)) (last_symbol (y ∷ xs) i)
+-- behind other parts the last one is split off as where it stands alone
+last_part : (xs : List BodyPart) (x : BodyPart) → split_last (xs ++ x ∷ []) ≡
+    (xs ++ (split_last (x ∷ [])).0, (split_last (x ∷ [])).1)
+last_part [] x = refl
+last_part (symbol i ∷ []) x = refl
+last_part (action u ∷ []) x = refl
+last_part (symbol i ∷ (y ∷ xs)) x = ap (λ (r : List BodyPart × Option (List ℕ)).
+    (symbol i ∷ r.0, r.1)) (last_part (y ∷ xs) x)
+last_part (action u ∷ (y ∷ xs)) x = ap (λ (r : List BodyPart × Option (List ℕ)).
+    (action u ∷ r.0, r.1)) (last_part (y ∷ xs) x)
 
 -- the last part of a body is an action
 pub ends_action : (last : Option BracedText) (body whole rest : List CodeBodyPart)
@@ -48,7 +40,8 @@ ends_action last body whole rest x b n w e f =
     ∙ ap split_last (ap (map body_part_view) (sym w ∙ e) ∙ map-append body_part_view rest
     (x ∷ []) ∙ ap
     (λ (y : CodeBodyPart). map body_part_view rest ++ body_part_view y ∷ []) f)
-    ∙ last_action (map body_part_view rest) b.text.now
+    ∙ last_part (map body_part_view rest) (action b.text.now)
+    ∙ ap (λ (l : List BodyPart). (l, Some b.text.now)) (append-nil (map body_part_view rest))
 
 -- it is a name or a literal
 pub ends_symbol : (last : Option BracedText) (body whole rest : List CodeBodyPart)
@@ -64,7 +57,7 @@ ends_symbol last body whole rest x m n w e f =
     (λ (y : CodeBodyPart). map body_part_view rest ++ body_part_view y ∷ []) f in
     ap (λ (o : Option BracedText). final_of (option_view braced_view o) (map body_part_view body)) n
     ∙ ap split_last (ap (map body_part_view) (sym w) ∙ u)
-    ∙ last_symbol (map body_part_view rest) (occurrence_view m)
+    ∙ last_part (map body_part_view rest) (symbol (occurrence_view m))
     ∙ ap (λ (l : List BodyPart). (l, None)) (sym u)
 
 -- the rules of inner actions have no precedence

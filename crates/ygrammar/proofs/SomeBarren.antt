@@ -13,17 +13,17 @@ use Rattle.ysymbols.specs.Grammar.{Production, blank}
 use Rattle.ysymbols.specs.Names.{Name, is_among, number_in}
 use Rattle.ysymbols.proofs.Derivations.{replaced, token_productive, trans, words}
 use Rattle.ysymbols.proofs.NameSteps.{among_all, among_number, false_true, number_among}
-use Rattle.youtline.specs.declared.mistake.Mistake.TheVariants.{BadStart, Unproductive}
-use Rattle.youtline.specs.Elaboration.{Rule, bare_of, body_from, final_of, first_rule}
-use Rattle.youtline.specs.Elaboration.{is_nonterminal, is_token, left_of_rule, lefts}
-use Rattle.youtline.specs.Elaboration.{numbered_rule, or_else, rule_left, rules, rules_from}
-use Rattle.youtline.specs.Elaboration.{start_symbol, starts, symbols, tokens}
-use Rattle.youtline.specs.Mistakes.{Holds}
-use Rattle.youtline.specs.Places.{IsBarren}
-use Rattle.youtline.specs.Printed.{printed_name}
-use Rattle.youtline.proofs.GivenTables.{distinct_tokens}
-use Rattle.youtline.proofs.TellingSteps.{other_name}
-use Rattle.youtline.proofs.TokenSteps.{distinct_all, noted_behind, number_stays, token_among}
+use Rattle.ydeclarations.specs.declared.mistake.Mistake.TheVariants.{BadStart, Unproductive}
+use Rattle.ydeclarations.specs.Elaboration.{Rule, bare_of, body_from, final_of, first_rule}
+use Rattle.ydeclarations.specs.Elaboration.{is_nonterminal, is_token, left_of_rule, lefts}
+use Rattle.ydeclarations.specs.Elaboration.{numbered_rule, or_else, rule_left, rules, rules_from}
+use Rattle.ydeclarations.specs.Elaboration.{start_symbol, starts, symbols, tokens}
+use Rattle.ydeclarations.specs.Mistakes.{Holds}
+use Rattle.ydeclarations.specs.Places.{IsBarren}
+use Rattle.ydeclarations.specs.Printed.{printed_name}
+use Rattle.ydeclarations.proofs.GivenTables.{distinct_tokens}
+use Rattle.ydeclarations.proofs.TellingSteps.{other_name}
+use Rattle.ydeclarations.proofs.TokenSteps.{distinct_all, noted_behind, number_stays, token_among}
 use Rattle.ysyntax.specs.Sites.{left_side}
 use Rattle.ysyntax.specs.Tree.{BodyPart, IsTree, RuleText, Tree, action, symbol}
 use Rattle.ygrammar.proofs.SymbolNames.{IsNamed, each_join, each_right}

@@ -20,15 +20,15 @@ use Rattle.ysyntax.specs.Tree.{definition_yield, body_part_yield, left_yield, en
 use Rattle.ysyntax.specs.Tree.{rule_text_yield}
 use Rattle.ysyntax.specs.Tree.{mark_yield, yield}
 use Rattle.ysymbols.specs.Names.{Name, is_among, printed_literal}
-use Rattle.youtline.specs.Printed.{printed_name}
-use Rattle.youtline.specs.Elaboration.{appearances, identifiers_of, inner_name, is_literal}
-use Rattle.youtline.specs.Elaboration.{is_token}
-use Rattle.youtline.specs.Elaboration.{body_part_identifier, lefts, level_at, given_by}
-use Rattle.youtline.specs.Elaboration.{left_of_rule}
-use Rattle.youtline.specs.Elaboration.{listed_name, listing_of, listings, listings_from}
-use Rattle.youtline.specs.Elaboration.{option_list, prec_of, type_names, types_of, uses_of, uses}
-use Rattle.youtline.specs.Elaboration.{who_of}
-use Rattle.youtline.proofs.TellingSteps.{other_name}
+use Rattle.ydeclarations.specs.Printed.{printed_name}
+use Rattle.ydeclarations.specs.Elaboration.{appearances, identifiers_of, inner_name, is_literal}
+use Rattle.ydeclarations.specs.Elaboration.{is_token}
+use Rattle.ydeclarations.specs.Elaboration.{body_part_identifier, lefts, level_at, given_by}
+use Rattle.ydeclarations.specs.Elaboration.{left_of_rule}
+use Rattle.ydeclarations.specs.Elaboration.{listed_name, listing_of, listings, listings_from}
+use Rattle.ydeclarations.specs.Elaboration.{option_list, prec_of, type_names, types_of, uses_of, uses}
+use Rattle.ydeclarations.specs.Elaboration.{who_of}
+use Rattle.ydeclarations.proofs.TellingSteps.{other_name}
 use Rattle.ysymbols.proofs.NameSteps.{false_true}
 
 -- ---- what holds of each element

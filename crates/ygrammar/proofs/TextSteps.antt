@@ -4,7 +4,7 @@ use Rattle.std.proofs.Common.{sym, ◌∙◌, ap, append_assoc, subst}
 use Rattle.std.specs.List.{flat_map, AllByRecursion}
 use Rattle.std.proofs.lemmas.List.{map-append}
 use Rattle.ysyntax.specs.declared.tree.BodyPart.{BodyPart as CodeBodyPart}
-use Rattle.youtline.specs.Elaboration.{Rule, body_from, final_of, or_else, rules_from}
+use Rattle.ydeclarations.specs.Elaboration.{Rule, body_from, final_of, or_else, rules_from}
 use Rattle.ysymbols.specs.Names.{Name}
 use Rattle.ygrammar.specs.Texts.{texts_of_rule, body_part_texts}
 use Rattle.ysyntax.specs.TreeTexts.{BodyPartStands}

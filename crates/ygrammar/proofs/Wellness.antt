@@ -9,35 +9,35 @@ use Rattle.std.proofs.lemmas.Bool.{cases_lt}
 use Rattle.std.proofs.lemmas.List.{length-map}
 use Rattle.std.proofs.lemmas.List.Elements.{All-contains_itself, All-from_recursion}
 use Rattle.std.proofs.lemmas.List.Elements.{recursion_from_All}
-use Rattle.youtline.specs.declared.mistake.Mistake.TheVariants.{TokenLeft, Undefined}
-use Rattle.youtline.specs.declared.mistake.Mistake.TheVariants.{BadStart}
-use Rattle.youtline.specs.declared.mistake.Mistake.TheVariants.{Limit}
+use Rattle.ydeclarations.specs.declared.mistake.Mistake.TheVariants.{TokenLeft, Undefined}
+use Rattle.ydeclarations.specs.declared.mistake.Mistake.TheVariants.{BadStart}
+use Rattle.ydeclarations.specs.declared.mistake.Mistake.TheVariants.{Limit}
 use Rattle.ysymbols.specs.Grammar.{ContextFree, Production, blank, rule_of, longest_body}
 use Rattle.ysymbols.specs.Grammar.{most_rules, most_symbols}
 use Rattle.ysymbols.specs.Forms.{Productive}
 use Rattle.ysymbols.specs.WellFormed.{WellFormed}
 use Rattle.ylexemes.specs.Lexemes.{IsName}
-use Rattle.youtline.specs.Mistakes.{Holds, HasNone, order}
+use Rattle.ydeclarations.specs.Mistakes.{Holds, HasNone, order}
 use Rattle.ysymbols.specs.Names.{Name, is_among, with_names, number_in}
-use Rattle.youtline.specs.Printed.{printed_name}
+use Rattle.ydeclarations.specs.Printed.{printed_name}
 use Rattle.ysyntax.specs.Tree.{Identifier, Definition, start, union, block, listing, types}
 use Rattle.ysyntax.specs.Tree.{BodyPart}
 use Rattle.ysyntax.specs.Tree.{symbol, action, RuleText, Tree, IsTree, BeginsWithName}
-use Rattle.youtline.specs.Elaboration.{Rule, appearances, bare_of, body_from, left_of_rule}
-use Rattle.youtline.specs.Elaboration.{identifiers_of}
-use Rattle.youtline.specs.Elaboration.{final_of, inner_name, is_nonterminal, is_token}
-use Rattle.youtline.specs.Elaboration.{body_part_identifier, lefts, listings, numbered_rule}
-use Rattle.youtline.specs.Elaboration.{option_list}
-use Rattle.youtline.specs.Elaboration.{or_else, prec_of, rule_left, rules, rules_from, split_last}
-use Rattle.youtline.specs.Elaboration.{start_symbol, starts_of, starts, symbols, tokens}
-use Rattle.youtline.specs.Elaboration.{token_names_of, uses_of, uses}
+use Rattle.ydeclarations.specs.Elaboration.{Rule, appearances, bare_of, body_from, left_of_rule}
+use Rattle.ydeclarations.specs.Elaboration.{identifiers_of}
+use Rattle.ydeclarations.specs.Elaboration.{final_of, inner_name, is_nonterminal, is_token}
+use Rattle.ydeclarations.specs.Elaboration.{body_part_identifier, lefts, listings, numbered_rule}
+use Rattle.ydeclarations.specs.Elaboration.{option_list}
+use Rattle.ydeclarations.specs.Elaboration.{or_else, prec_of, rule_left, rules, rules_from, split_last}
+use Rattle.ydeclarations.specs.Elaboration.{start_symbol, starts_of, starts, symbols, tokens}
+use Rattle.ydeclarations.specs.Elaboration.{token_names_of, uses_of, uses}
 use Rattle.ysymbols.proofs.NameSteps.{among_all, eq_self}
-use Rattle.youtline.proofs.TellingSteps.{same_number}
+use Rattle.ydeclarations.proofs.TellingSteps.{same_number}
 use Rattle.ysymbols.proofs.NameSteps.{false_true}
-use Rattle.youtline.proofs.TokenSteps.{noted_behind, number_behind}
+use Rattle.ydeclarations.proofs.TokenSteps.{noted_behind, number_behind}
 use Rattle.ysymbols.proofs.NameSteps.{or_left, or_right}
 use Rattle.ysymbols.proofs.NameSteps.{among_number}
-use Rattle.youtline.proofs.TokenSteps.{token_among}
+use Rattle.ydeclarations.proofs.TokenSteps.{token_among}
 use Rattle.ygrammar.proofs.SymbolNames.{IsNamed, Named, accept_token, each_from_map, each_join}
 use Rattle.ygrammar.proofs.SymbolNames.{each_left, each_piece, each_right, each_to_map, each_weaker}
 use Rattle.ygrammar.proofs.SymbolNames.{end_accept, inner_accept, inner_end, inner_token}

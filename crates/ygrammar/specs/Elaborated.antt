@@ -2,22 +2,22 @@
 use Rattle.std.specs.Prelude.{ℕ, ◌≡◌, ◌<◌, ◌≤◌, List, length, map, Option, Result, Ok, Err}
 use Rattle.std.specs.List.{AllByRecursion}
 use Rattle.ygrammar.specs.declared.elaboration.Named.{Named}
-use Rattle.youtline.specs.declared.mistake.Mistake.TheVariants.{TokenLeft, Undefined}
-use Rattle.youtline.specs.declared.mistake.Mistake.TheVariants.{TwicePrecedence}
-use Rattle.youtline.specs.declared.mistake.Mistake.TheVariants.{Unproductive}
-use Rattle.youtline.specs.declared.mistake.Refused.{Refused}
-use Rattle.youtline.specs.declared.mistake.Refused.TheVariants as refused
-use Rattle.youtline.specs.Elaboration.{bare_of, lefts, rules, symbols, token_precedences, tokens}
+use Rattle.ydeclarations.specs.declared.mistake.Mistake.TheVariants.{TokenLeft, Undefined}
+use Rattle.ydeclarations.specs.declared.mistake.Mistake.TheVariants.{TwicePrecedence}
+use Rattle.ydeclarations.specs.declared.mistake.Mistake.TheVariants.{Unproductive}
+use Rattle.ydeclarations.specs.declared.mistake.Refused.{Refused}
+use Rattle.ydeclarations.specs.declared.mistake.Refused.TheVariants as refused
+use Rattle.ydeclarations.specs.Elaboration.{bare_of, lefts, rules, symbols, token_precedences, tokens}
 use Rattle.ysymbols.specs.Forms.{Productive}
 use Rattle.ysymbols.specs.Grammar.{ContextFree, GrammarValue, RuleValue}
 use Rattle.ysymbols.specs.Marking.{AreIn}
 use Rattle.ygrammar.specs.Meaning.{IsMeaning}
-use Rattle.youtline.specs.Mistakes.{HasNone, Holds, IsFirst, order}
+use Rattle.ydeclarations.specs.Mistakes.{HasNone, Holds, IsFirst, order}
 use Rattle.ysymbols.specs.NameTexts.{texts}
 use Rattle.ygrammar.specs.Numbered.{rule_numbers}
 use Rattle.ygrammar.specs.OwnTable.{IsOwnTable}
 use Rattle.ygrammar.specs.Texts.{kept_text}
-use Rattle.youtline.specs.Places.{IsBarren}
+use Rattle.ydeclarations.specs.Places.{IsBarren}
 use Rattle.ysyntax.specs.Sites.{left_side}
 use Rattle.ysyntax.specs.Tree.{Tree}
 use Rattle.ysymbols.specs.WellFormed.{WellFormed}

@@ -2,9 +2,9 @@
 use Rattle.std.specs.Prelude.{ℕ, ◌≡◌, List}
 use Rattle.ysyntax.specs.declared.fault.PlacedFault.{PlacedFault}
 use Rattle.ysyntax.specs.Placing.{no_memory, placed_fault}
-use Rattle.youtline.specs.declared.mistake.Refused.{Refused}
-use Rattle.youtline.specs.declared.mistake.Refused.TheVariants as refused
-use Rattle.youtline.specs.OutlineSites.{IsPlaced}
+use Rattle.ydeclarations.specs.declared.mistake.Refused.{Refused}
+use Rattle.ydeclarations.specs.declared.mistake.Refused.TheVariants as refused
+use Rattle.ydeclarations.specs.OutlineSites.{IsPlaced}
 use Rattle.ygrammar.specs.Elaborated.{IsFirstRefused}
 use Rattle.ygrammar.specs.GrammarOf.{line_of, mistake_at}
 use Rattle.ysyntax.specs.Sites.{Site}

@@ -4,19 +4,19 @@ use Rattle.std.specs.Prelude.{Result, Ok, Err, IfSome}
 use Rattle.ysyntax.specs.declared.fault.GrammarFault.{GrammarFault}
 use Rattle.ysyntax.specs.declared.fault.GrammarFault.TheVariants as faults
 use Rattle.ysyntax.specs.declared.fault.PlacedFault.{PlacedFault}
-use Rattle.youtline.specs.declared.mistake.Mistake.{Mistake}
-use Rattle.youtline.specs.declared.mistake.Mistake.TheVariants.{TokenLeft, Undefined}
-use Rattle.youtline.specs.declared.mistake.Mistake.TheVariants.{TwicePrecedence, BadNumber}
-use Rattle.youtline.specs.declared.mistake.Mistake.TheVariants.{BadStart, Unproductive}
-use Rattle.youtline.specs.declared.mistake.Mistake.TheVariants.{BadPrec}
-use Rattle.youtline.specs.declared.mistake.Mistake.TheVariants.{Limit}
+use Rattle.ydeclarations.specs.declared.mistake.Mistake.{Mistake}
+use Rattle.ydeclarations.specs.declared.mistake.Mistake.TheVariants.{TokenLeft, Undefined}
+use Rattle.ydeclarations.specs.declared.mistake.Mistake.TheVariants.{TwicePrecedence, BadNumber}
+use Rattle.ydeclarations.specs.declared.mistake.Mistake.TheVariants.{BadStart, Unproductive}
+use Rattle.ydeclarations.specs.declared.mistake.Mistake.TheVariants.{BadPrec}
+use Rattle.ydeclarations.specs.declared.mistake.Mistake.TheVariants.{Limit}
 use Rattle.ysyntax.specs.Lexer.{Refusal, Outcome, SpellsSyntax, StopsAt, newlines, refusal}
 use Rattle.ylexemes.specs.Front.{Fault, unfinished}
 use Rattle.ylexemes.specs.Front.{bad_literal, foreign, syntax}
 use Rattle.ysymbols.specs.Grammar.{GrammarValue, longest_file}
 use Rattle.ygrammar.specs.Meaning.{IsMeaning}
 use Rattle.ygrammar.specs.Places.{IsPlace}
-use Rattle.youtline.specs.Mistakes.{IsFirst, order}
+use Rattle.ydeclarations.specs.Mistakes.{IsFirst, order}
 use Rattle.ysyntax.specs.Tree.{IsTree, Tree, yield}
 
 -- the file is not too long, and spells the syntax of this tree

@@ -18,7 +18,7 @@ pub use Rattle.ysyntax.specs.Tree
 pub use Rattle.ysyntax.specs.Sites
 pub use Rattle.ysourcemap.specs.Roles
 pub use Rattle.ysourcemap.specs.Map as SourceMaps
-pub use Rattle.youtline.specs.Printed
-pub use Rattle.youtline.specs.Elaboration
-pub use Rattle.youtline.specs.Mistakes
-pub use Rattle.youtline.specs.Places as MistakePlaces
+pub use Rattle.ydeclarations.specs.Printed
+pub use Rattle.ydeclarations.specs.Elaboration
+pub use Rattle.ydeclarations.specs.Mistakes
+pub use Rattle.ydeclarations.specs.Places as MistakePlaces

@@ -1,11 +1,11 @@
 -- The grammar that a file means.
 use Rattle.std.specs.Prelude.{ℕ, ◌≡◌, ◌<◌, ◌↔◌, Bool, true, false, List, length, map}
 use Rattle.std.specs.Prelude.{slice_index_or}
-use Rattle.youtline.specs.Elaboration.{HavePrecedences, bare_of, own_numbers, rules, symbols}
-use Rattle.youtline.specs.Elaboration.{token_precedences}
+use Rattle.ydeclarations.specs.Elaboration.{HavePrecedences, bare_of, own_numbers, rules, symbols}
+use Rattle.ydeclarations.specs.Elaboration.{token_precedences}
 use Rattle.ysymbols.specs.Forms.{IsReachable}
 use Rattle.ysymbols.specs.Grammar.{GrammarValue}
-use Rattle.youtline.specs.Mistakes.{HasNone, order}
+use Rattle.ydeclarations.specs.Mistakes.{HasNone, order}
 use Rattle.ygrammar.specs.Numbers.{AreNumbers}
 use Rattle.ysyntax.specs.Tree.{Tree}
 

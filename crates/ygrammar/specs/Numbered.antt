@@ -2,10 +2,10 @@
 use Rattle.std.specs.Prelude.{ℕ, ◌&&◌, nat_le, nat_lt, fold, Bool, List, [], ◌∷◌, length, map}
 use Rattle.std.specs.Prelude.{Option, Some, None, if◌then◌else◌}
 use Rattle.ysymbols.specs.declared.precedence.Precedence.{Precedence}
-use Rattle.youtline.specs.Elaboration.{Rule, body_from, final_of, numbered_rule, precedence_at}
+use Rattle.ydeclarations.specs.Elaboration.{Rule, body_from, final_of, numbered_rule, precedence_at}
 use Rattle.ysymbols.specs.Grammar.{RuleValue, longest_body}
 use Rattle.ysymbols.specs.Names.{Name, number_in}
-use Rattle.youtline.specs.Printed.{printed_name}
+use Rattle.ydeclarations.specs.Printed.{printed_name}
 use Rattle.ysyntax.specs.Tree.{RuleText, Identifier}
 
 -- the next number of an inner action behind rules of the file, from k on

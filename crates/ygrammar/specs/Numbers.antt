@@ -2,10 +2,10 @@
 use Rattle.std.specs.Prelude.{ℕ, ◌≡◌, ◌≢◌, ◌<◌, ◌≤◌, ◌⊎◌, Bool, true, false, List, length, map}
 use Rattle.std.specs.Prelude.{Option, Some, None, slice_get, slice_index_or, if◌then◌else◌, ◌==◌}
 use Rattle.std.specs.Prelude.{unwrap_or}
-use Rattle.youtline.specs.declared.outline.Listed.{Listed}
-use Rattle.youtline.specs.Elaboration.{Listing, digits_number, listed_name}
-use Rattle.youtline.specs.Outline.{listed_view}
-use Rattle.youtline.specs.Owned.{IsFit}
+use Rattle.ydeclarations.specs.declared.outline.Listed.{Listed}
+use Rattle.ydeclarations.specs.Elaboration.{Listing, digits_number, listed_name}
+use Rattle.ydeclarations.specs.Outline.{listed_view}
+use Rattle.ydeclarations.specs.Owned.{IsFit}
 use Rattle.ysymbols.specs.Names.{Name, number_in}
 use Rattle.ysyntax.specs.declared.tree.Digits.{Digits}
 use Rattle.ygrammar.specs.declared.holders.Holders.{Holders}

@@ -1,12 +1,12 @@
 -- The table of the tokens' own numbers and their holders, as the code keeps it.
 use Rattle.std.specs.Prelude.{◌≡◌, ◌≤◌, length, Result, Ok, Err}
-use Rattle.youtline.specs.declared.mistake.Mistake.TheVariants as mistakes
-use Rattle.youtline.specs.declared.mistake.Refused.{Refused}
+use Rattle.ydeclarations.specs.declared.mistake.Mistake.TheVariants as mistakes
+use Rattle.ydeclarations.specs.declared.mistake.Refused.{Refused}
 use Rattle.ygrammar.specs.declared.holders.OwnTable.{OwnTable}
-use Rattle.youtline.specs.Elaboration.{own_numbers}
-use Rattle.youtline.specs.Mistakes.{Holds}
+use Rattle.ydeclarations.specs.Elaboration.{own_numbers}
+use Rattle.ydeclarations.specs.Mistakes.{Holds}
 use Rattle.ygrammar.specs.Numbers.{AreHolders}
-use Rattle.youtline.specs.Owned.{Refuses}
+use Rattle.ydeclarations.specs.Owned.{Refuses}
 use Rattle.ysyntax.specs.Tree.{Tree}
 use Rattle.ysymbols.specs.Grammar.{number_bound}
 

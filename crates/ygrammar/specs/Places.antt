@@ -1,7 +1,7 @@
 -- Where the mistakes of a file stand.
 use Rattle.std.specs.Prelude.{ℕ, List}
-use Rattle.youtline.specs.declared.mistake.Mistake.{Mistake}
-use Rattle.youtline.specs.Places.{StandsAt}
+use Rattle.ydeclarations.specs.declared.mistake.Mistake.{Mistake}
+use Rattle.ydeclarations.specs.Places.{StandsAt}
 use Rattle.ysyntax.specs.Sites.{AreSites, Site}
 use Rattle.ysyntax.specs.Tree.{Tree}
 

@@ -1,7 +1,7 @@
 -- The braced texts of a file, by their places in the source.
 use Rattle.std.specs.Prelude.{ℕ, List, [], ◌∷◌, ◌++◌, Option, Some}
 use Rattle.std.specs.List.{flat_map}
-use Rattle.youtline.specs.Elaboration.{Rule, final_of}
+use Rattle.ydeclarations.specs.Elaboration.{Rule, final_of}
 use Rattle.ysyntax.specs.Tree.{RuleText, BodyPart, symbol, action}
 
 -- the kept text of a rule's action, where it has one

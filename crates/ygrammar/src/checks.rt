@@ -6,14 +6,14 @@ ghost use Rattle.std.specs.Prelude.{nat_lt, not, IfSome};
 ghost use Rattle.std.specs.List.{find, last_or, list_any};
 ghost use Rattle.ysymbols.specs.NameTexts.{texts};
 ghost use Rattle.ysymbols.specs.Names.{is_among, number_in};
-ghost use Rattle.youtline.specs.Printed.{printed_name};
+ghost use Rattle.ydeclarations.specs.Printed.{printed_name};
 ghost use Rattle.ygrammar.specs.Numbered.{is_between, is_long};
-ghost use Rattle.youtline.specs.Outline.{start_view};
+ghost use Rattle.ydeclarations.specs.Outline.{start_view};
 ghost use Rattle.ysyntax.specs.TreeViews.{identifier_view, occurrence_view, name_view};
 ghost use Rattle.ysymbols.specs.Sources.{option_view};
 
-use youtline::identifiers::{is_named, number_of};
-use youtline::outline::Started;
+use ydeclarations::identifiers::{is_named, number_of};
+use ydeclarations::outline::Started;
 use ysymbols::Rule;
 use ysymbols::limits::LONGEST_BODY;
 use ysymbols::names::{SymbolTable, is_among};

@@ -2,24 +2,25 @@
 
 ghost use Rattle.std.specs.Prelude.{◌≡◌, ◌<◌, ◌≤◌, ℕ, IfOk, MatchBool, length, slice_index_or};
 ghost use Rattle.std.specs.Prelude.{[], slice_set, ◌++◌, IfErr, List, Option, map};
-ghost use Rattle.youtline.specs.Elaboration.{tokens as tokens_of_tree};
+ghost use Rattle.ydeclarations.specs.Elaboration.{tokens as tokens_of_tree};
 ghost use Rattle.ysymbols.specs.Grammar.{number_bound};
 ghost use Rattle.ysymbols.specs.NameTexts.{texts};
 ghost use Rattle.ygrammar.specs.Numbers.{AreHolders, FaultyAt, HasNumber, IsHolders, IsOwn};
 ghost use Rattle.ygrammar.specs.Numbers.{is_held, with_holder};
-ghost use Rattle.youtline.specs.Outline.{Outlines, listed_view};
-ghost use Rattle.youtline.specs.OutlineSites.{IsPlaced, OutlineSites};
+ghost use Rattle.ydeclarations.specs.Outline.{Outlines, listed_view};
+ghost use Rattle.ydeclarations.specs.OutlineSites.{IsPlaced, OutlineSites};
 ghost use Rattle.ysyntax.specs.Sites.{Site};
 ghost use Rattle.ygrammar.specs.OwnTable.{Owns};
-ghost use Rattle.youtline.specs.Owned.{AllSmall};
+ghost use Rattle.ydeclarations.specs.Owned.{AllSmall};
 ghost use Rattle.ysyntax.specs.Tree.{Tree as TreeOf};
 ghost use Rattle.ygrammar.specs.declared.holders.Holders.TheVariants.{Nobody, Several};
 
 use std::alloc::{AllocError, Global};
-use youtline::given::{fit_number, given_numbers, own_numbers};
-use youtline::identifiers::number_of;
-use youtline::mistake::{Mistake, Refused};
-use youtline::outline::{Listed, Outline};
+use ydeclarations::given::{fit_number, given_numbers, own_numbers};
+use ydeclarations::identifiers::number_of;
+use ydeclarations::mistake::{Mistake, Refused};
+use ydeclarations::outline::{Listed, Outline};
+use ysymbols::let_go;
 use ysymbols::limits::NUMBERS;
 use ysymbols::names::SymbolTable;
 
@@ -179,12 +180,8 @@ impl OwnTable {
 }
 
 impl Drop for OwnTable {
-    // A call in each owner, which keeps their proofs short.
     fn drop(self) {
-        let OwnTable {
-            numbers: _,
-            holders: _,
-        } = self;
+        let_go!(self: OwnTable { numbers, holders });
     }
 }
 

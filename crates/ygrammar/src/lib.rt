@@ -1,5 +1,5 @@
 //! The reader of grammar files: from bytes it makes the grammar that they mean, or finds their
-//! first fault. What the declarations of a file say is that of `youtline`, and the value of a
+//! first fault. What the declarations of a file say is that of `ydeclarations`, and the value of a
 //! grammar that of `ysymbols`.
 #![tactic(auto)]
 

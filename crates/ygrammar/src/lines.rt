@@ -4,7 +4,7 @@ ghost use Rattle.std.specs.Prelude.{◌≡◌};
 ghost use Rattle.ygrammar.specs.Faults.{IsRefusal};
 ghost use Rattle.ygrammar.specs.GrammarOf.{line_of, mistake_at};
 
-use youtline::mistake::{Mistake, Refused};
+use ydeclarations::mistake::{Mistake, Refused};
 use ysyntax::fault::{GrammarFault, PlacedFault};
 
 /// The fault that is this mistake, on a line.

@@ -13,6 +13,7 @@ ghost use Rattle.ygrammar.specs.GrammarOf.{unplaced};
 ghost use Rattle.ygrammar.specs.Parsed.{IsParsed};
 
 use std::alloc::Global;
+use ysymbols::let_go;
 use ysyntax::fault::PlacedFault;
 use ysyntax::lexer::{Placed, read_syntax};
 use ysyntax::tree::Tree;
@@ -27,12 +28,8 @@ pub struct Parsed<'a> {
 }
 
 impl Drop for Parsed<'_> {
-    // A call in each owner, which keeps their proofs short.
     fn drop(self) {
-        let Parsed {
-            lexemes: _,
-            tree: _,
-        } = self;
+        let_go!(self: Parsed { lexemes, tree });
     }
 }
 

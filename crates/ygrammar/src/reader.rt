@@ -13,7 +13,7 @@ ghost use Rattle.ygrammar.specs.GrammarOf.{GivesGrammar, HasLine, IsFaultAt, IsF
 ghost use Rattle.ygrammar.specs.GrammarOf.{IsMistakeAt, IsMistaken, IsRefused, IsTextFault};
 ghost use Rattle.ygrammar.specs.GrammarOf.{unplaced};
 ghost use Rattle.ygrammar.specs.Parsed.{AreBarrenOf, IsMapped, IsParsed, LendsBarren, unmapped};
-ghost use Rattle.youtline.specs.declared.mistake.Mistake.{Mistake};
+ghost use Rattle.ydeclarations.specs.declared.mistake.Mistake.{Mistake};
 
 use crate::elaboration::{barren_lefts, elaborate};
 use crate::lines::in_file;

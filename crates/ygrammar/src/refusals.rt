@@ -2,24 +2,24 @@
 //! of it.
 
 ghost use Rattle.std.specs.Prelude.{◌≡◌, ◌++◌, ◌∷◌, IfErr, List, length, map};
-ghost use Rattle.youtline.specs.Elaboration.{rules as rules_of_tree, symbols as symbols_of_tree};
-ghost use Rattle.youtline.specs.Elaboration.{token_precedences, tokens as tokens_of_tree};
+ghost use Rattle.ydeclarations.specs.Elaboration.{rules as rules_of_tree, symbols as symbols_of_tree};
+ghost use Rattle.ydeclarations.specs.Elaboration.{token_precedences, tokens as tokens_of_tree};
 ghost use Rattle.ysymbols.specs.NameTexts.{texts};
 ghost use Rattle.ygrammar.specs.Numbered.{rule_numbers};
-ghost use Rattle.youtline.specs.Outline.{Outlines};
-ghost use Rattle.youtline.specs.OutlineSites.{IsPlaced, OutlineSites};
+ghost use Rattle.ydeclarations.specs.Outline.{Outlines};
+ghost use Rattle.ydeclarations.specs.OutlineSites.{IsPlaced, OutlineSites};
 ghost use Rattle.ysyntax.specs.Sites.{Site};
-ghost use Rattle.youtline.specs.Owned.{Clears};
+ghost use Rattle.ydeclarations.specs.Owned.{Clears};
 ghost use Rattle.ysyntax.specs.Tree.{Tree as TreeOf};
-ghost use Rattle.youtline.specs.declared.mistake.Mistake.TheVariants.{BadPrec, BadStart};
-ghost use Rattle.youtline.specs.declared.mistake.Mistake.TheVariants.{Limit};
-ghost use Rattle.youtline.specs.declared.mistake.Mistake.TheVariants.{TokenLeft, Undefined};
+ghost use Rattle.ydeclarations.specs.declared.mistake.Mistake.TheVariants.{BadPrec, BadStart};
+ghost use Rattle.ydeclarations.specs.declared.mistake.Mistake.TheVariants.{Limit};
+ghost use Rattle.ydeclarations.specs.declared.mistake.Mistake.TheVariants.{TokenLeft, Undefined};
 
 use crate::checks::{
     any_long, bad_start, first_nonterminal, first_token, first_undefined, first_unknown,
 };
-use youtline::mistake::{Mistake, Refused};
-use youtline::outline::Outline;
+use ydeclarations::mistake::{Mistake, Refused};
+use ydeclarations::outline::Outline;
 use ysymbols::Rule;
 use ysymbols::limits::{MOST_RULES, MOST_SYMBOLS};
 use ysymbols::names::SymbolTable;

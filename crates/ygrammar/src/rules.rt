@@ -3,12 +3,12 @@
 ghost use Rattle.std.specs.Prelude.{◌≡◌, ◌<◌, ◌^◌, ◌++◌, ◌∷◌, [], ℕ, List, Option, map, length};
 ghost use Rattle.std.specs.Prelude.{codes, IfOk, IfSome, OnOk};
 ghost use Rattle.std.specs.List.{flat_map, AllByRecursion};
-ghost use Rattle.youtline.specs.Elaboration.{body_from, final_of, first_rule, inner_name};
-ghost use Rattle.youtline.specs.Elaboration.{inner_rule, or_else, precedence_at, rule_left};
-ghost use Rattle.youtline.specs.Elaboration.{rules, rules_from, start_symbol};
+ghost use Rattle.ydeclarations.specs.Elaboration.{body_from, final_of, first_rule, inner_name};
+ghost use Rattle.ydeclarations.specs.Elaboration.{inner_rule, or_else, precedence_at, rule_left};
+ghost use Rattle.ydeclarations.specs.Elaboration.{rules, rules_from, start_symbol};
 ghost use Rattle.ysymbols.specs.NameTexts.{texts};
 ghost use Rattle.ysymbols.specs.Names.{with_names, number_in};
-ghost use Rattle.youtline.specs.Outline.{start_view};
+ghost use Rattle.ydeclarations.specs.Outline.{start_view};
 ghost use Rattle.ygrammar.specs.Numbered.{chosen_token, inner_after, inner_numbers, last_token};
 ghost use Rattle.ygrammar.specs.Numbered.{rule_numbers};
 ghost use Rattle.ygrammar.specs.Texts.{texts_of_rule};
@@ -22,8 +22,8 @@ ghost use Rattle.ysymbols.specs.Sources.{option_view};
 
 use itoa::Buffer;
 use std::alloc::{AllocError, Global};
-use youtline::identifiers::number_of;
-use youtline::outline::{Outline, Started};
+use ydeclarations::identifiers::number_of;
+use ydeclarations::outline::{Outline, Started};
 use ysymbols::names::{SymbolTable, intern, number_in};
 use ysymbols::texts::{Span, Texts};
 use ysymbols::{Precedence, Rule, Sym};

@@ -1,17 +1,17 @@
 //! The tokens of a file by number.
 
 ghost use Rattle.std.specs.Prelude.{◌≡◌, ◌++◌, ◌∷◌, [], filter, map, codes, IfOk, OnOk};
-ghost use Rattle.youtline.specs.Elaboration.{is_literal, listed_name, token_names_of, tokens_of};
+ghost use Rattle.ydeclarations.specs.Elaboration.{is_literal, listed_name, token_names_of, tokens_of};
 ghost use Rattle.ysymbols.specs.NameTexts.{texts};
 ghost use Rattle.ysymbols.specs.Names.{is_among, with_names};
-ghost use Rattle.youtline.specs.Printed.{printed_name};
-ghost use Rattle.youtline.specs.Outline.{listed_view};
+ghost use Rattle.ydeclarations.specs.Printed.{printed_name};
+ghost use Rattle.ydeclarations.specs.Outline.{listed_view};
 ghost use Rattle.ysyntax.specs.TreeViews.{occurrence_view};
 
 use indexmap::IndexSet;
 use std::alloc::{AllocError, Global};
-use youtline::identifiers::{intern_identifier, is_named};
-use youtline::outline::{Listed, Outline};
+use ydeclarations::identifiers::{intern_identifier, is_named};
+use ydeclarations::outline::{Listed, Outline};
 use ysymbols::names::{SymbolTable, intern};
 use ysyntax::tree::{Identifier, Occurrence};
 

@@ -9,6 +9,7 @@ use Rattle.std.proofs.lemmas.List.Quantifiers.{all_pairs_push}
 use Rattle.ysymbols.specs.Grammar.{ContextFree, body_of}
 use Rattle.ylalr.specs.declared.items.Item.{Item}
 use Rattle.yrows.specs.Rows.{BitRows, Holds, AddsFrom}
+use Rattle.yrows.proofs.Turn.{same_default}
 use Rattle.ylalr.specs.Sets.{Before, IsAscending, InRange, ItemsOf, Closure, given, IsClosure}
 use Rattle.ylalr.specs.Sets.{LeadsTo, FirstRule}
 use Rattle.ylalr.proofs.ClosureSteps.{closed_cases, closed_from_opened}
@@ -27,6 +28,15 @@ all_of P xs f k d h = f (get_or xs k d) (Contains-get_or xs k d h)
 
 pub at_of : {X : Type 0} (P : X → Type 0) (xs : List X) (x : X) → All P xs → Contains xs x → P x
 at_of P xs x a c = All-contains P xs x a c
+
+-- the item of a place
+abbrev pub item_at : List Item → ℕ → Item
+item_at xs k = get_or xs k (record { rule = 0; dot = 0 })
+
+-- it is there whatever the default
+pub item_there : (xs : List Item) (k : ℕ) → k < length xs →
+    item_at xs k ≡ get_or xs k (item_at xs k)
+item_there xs k h = same_default xs k (record { rule = 0; dot = 0 }) (item_at xs k) h
 
 pub push_ascending : (xs : List Item) (p : Item) → IsAscending xs → All (λ i. Before i p) xs →
     IsAscending (xs ++ p ∷ [])

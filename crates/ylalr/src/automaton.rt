@@ -20,7 +20,7 @@ use crate::looks::{Lr0, all_looks, has_look, next_in_row};
 use std::alloc::Global;
 use std::marker::Model;
 use yrows::rows::Rows;
-use ysymbols::{Grammar, Sym};
+use ysymbols::{Grammar, Sym, let_go};
 
 /// A grammar with its canonical collection of sets of items and their merged lookaheads.
 pub struct Automaton {
@@ -29,9 +29,8 @@ pub struct Automaton {
 }
 
 impl Drop for Automaton {
-    // A call in each owner, which keeps their proofs short.
     fn drop(self) {
-        let Automaton { lr0: _, looks: _ } = self;
+        let_go!(self: Automaton { lr0, looks });
     }
 }
 

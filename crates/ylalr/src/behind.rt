@@ -10,7 +10,7 @@ use crate::tokens::token_count;
 use std::alloc::{AllocError, Global};
 use yrows::marks::Marks;
 use yrows::rows::Rows;
-use ysymbols::{Grammar, Sym};
+use ysymbols::{Grammar, Sym, let_go};
 
 /// What stands behind the first symbol of the body of each rule.
 pub struct Behind {
@@ -21,12 +21,8 @@ pub struct Behind {
 }
 
 impl Drop for Behind {
-    // A call in each owner, which keeps their proofs short.
     fn drop(self) {
-        let Behind {
-            rows: _,
-            vanishing: _,
-        } = self;
+        let_go!(self: Behind { rows, vanishing });
     }
 }
 

@@ -11,7 +11,7 @@ use crate::items::Item;
 use std::alloc::{AllocError, Global};
 use std::marker::Model;
 use yrows::rows::Rows;
-use ysymbols::{Grammar, Sym};
+use ysymbols::{Grammar, Sym, let_go};
 
 /// For each symbol, the row of the items that it is the left side of; and a row of bits with the
 /// symbols that have one, since a state has far fewer left sides than there are symbols.
@@ -21,9 +21,8 @@ pub struct Lefts {
 }
 
 impl Drop for Lefts {
-    // A call in each owner, which keeps their proofs short.
     fn drop(self) {
-        let Lefts { rows: _, used: _ } = self;
+        let_go!(self: Lefts { rows, used });
     }
 }
 

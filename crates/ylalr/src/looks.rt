@@ -27,7 +27,7 @@ use yrows::marks::Marks;
 use yrows::rows::Rows;
 use yspread::links::Links;
 use yspread::spread::spread;
-use ysymbols::{Grammar, Sym};
+use ysymbols::{Grammar, Sym, let_go};
 
 /// The LR(0) automaton of a grammar, and beside it what its lookaheads are made from.
 pub struct Lr0 {
@@ -48,17 +48,8 @@ pub struct Lr0 {
 }
 
 impl Drop for Lr0 {
-    // A call in each owner, which keeps their proofs short.
     fn drop(self) {
-        let Lr0 {
-            grammar: _,
-            nullable: _,
-            first: _,
-            behind: _,
-            states: _,
-            gotos: _,
-            item_rows: _,
-        } = self;
+        let_go!(self: Lr0 { grammar, nullable, first, behind, states, gotos, item_rows });
     }
 }
 

@@ -9,6 +9,7 @@ use smallvec::SmallVec;
 use std::alloc::{AllocError, Global};
 use std::marker::Model;
 use yrows::list::Sequence;
+use ysymbols::let_go;
 
 /// The most states that an automaton may have.
 pub const MOST_STATES: usize = 16_384;
@@ -23,12 +24,8 @@ pub struct States {
 }
 
 impl Drop for States {
-    // A call in each owner, which keeps their proofs short.
     fn drop(self) {
-        let States {
-            kernels: _,
-            closures: _,
-        } = self;
+        let_go!(self: States { kernels, closures });
     }
 }
 

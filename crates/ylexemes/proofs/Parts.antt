@@ -175,18 +175,7 @@ sign_named (b ∷ w) = cond (eqb b 37) (cond (bytes_eq w (37 ∷ [])) (Some sign
 
 named_back : (s : Sign) → sign_named (spelling s) ≡ Some s
 named_back sign.Mark = refl
-named_back sign.Token = refl
-named_back sign.Left = refl
-named_back sign.Right = refl
-named_back sign.Nonassoc = refl
-named_back sign.Types = refl
-named_back sign.Start = refl
-named_back sign.Union = refl
-named_back sign.Prec = refl
-named_back sign.Less = refl
-named_back sign.Greater = refl
-named_back sign.Bar = refl
-named_back sign.Semicolon = refl
+named_back _ = refl
 
 pub spelling_one : (s z : Sign) → spelling s ≡ spelling z → s ≡ z
 spelling_one s z e =

@@ -19,14 +19,14 @@ use Rattle.ymachine.specs.declared.machine.StepKind.TheVariants as kinds
 use Rattle.ymachine.specs.declared.parts.StackEntry.{StackEntry}
 use Rattle.ymachine.specs.declared.parts.Node.{Node}
 use Rattle.ymachine.specs.declared.parts.Node.TheVariants as nodes
-use Rattle.ymachine.specs.Machine.{Machine, Configuration, Entry, symbols}
+use Rattle.ymachine.specs.Machine.{Configuration, Entry, symbols}
 use Rattle.ymachine.specs.Machine.{without_last, last_ones, Move, Shift, Reduce, Accept, Error}
 use Rattle.ymachine.specs.Machine.{shift_step, discard_step, detect_step}
 use Rattle.ymachine.specs.Machine.{step_by, pop_step}
 use Rattle.ymachine.specs.Machine.{recover_by, next_in, next, edited_rest}
 use Rattle.ymachine.specs.Machine.{edited_in}
 use Rattle.ymachine.specs.Machine.{edited}
-use Rattle.ymachine.specs.Rest.{Rest, ahead, is_left, place_left, without_first, with_insertion}
+use Rattle.ymachine.specs.Rest.{ahead, is_left, place_left, without_first, with_insertion}
 use Rattle.ymachine.specs.Tables.{goto_at, goto_from, cell_at, cell_in, rule_of, walk, state_after}
 use Rattle.ytokens.specs.Symbols.{is_input, token_count}
 use Rattle.ymachine.specs.MachineOver.{machine_over, move_of}
@@ -68,47 +68,25 @@ walk-append : (t : Tables) (q : Option ℕ) (xs ys : List ℕ)
 walk-append t q [] ys = refl
 walk-append t q (x ∷ xs) ys = walk-append t (goto_from t q x) xs ys
 
-abbrev formed : List Entry → List (ℕ × ℕ) → ℕ → ℕ → Mode → Configuration
-formed stack rest counter errors mode =
-    record { stack = stack; rest = rest; counter = counter; errors = errors; mode = mode }
-
 -- equal parts make equal configurations
 pub same : (c d : Configuration) → c.stack ≡ d.stack → c.rest ≡ d.rest → c.counter ≡ d.counter
     → c.errors ≡ d.errors → c.mode ≡ d.mode → c ≡ d
-same c d e f g h i =
-    ap (λ (x : List Entry). formed x c.rest c.counter c.errors c.mode) e
-    ∙ ap (λ (x : List (ℕ × ℕ)). formed d.stack x c.counter c.errors c.mode) f
-    ∙ ap (λ (x : ℕ). formed d.stack d.rest x c.errors c.mode) g
-    ∙ ap (λ (x : ℕ). formed d.stack d.rest d.counter x c.mode) h
-    ∙ ap (λ (x : Mode). formed d.stack d.rest d.counter d.errors x) i
-
-abbrev held : List StackEntry → List Node → List StackEntry → Rest → ℕ → ℕ → Mode → ℕ → Content
-held stack ns children rest counter errors mode steps =
-    record {
-      stack = stack;
-      nodes = ns;
-      children = children;
-      rest = rest;
-      counter = counter;
-      errors = errors;
-      mode = mode;
-      steps = steps;
-    }
+same c d e f g h i = λ k.
+    record { stack = e k; rest = f k; counter = g k; errors = h k; mode = i k }
 
 same_content : (c d : Content) → c.stack ≡ d.stack → c.nodes ≡ d.nodes → c.children ≡ d.children
     → c.rest ≡ d.rest → c.counter ≡ d.counter → c.errors ≡ d.errors → c.mode ≡ d.mode
     → c.steps ≡ d.steps → c ≡ d
-same_content c d a b e f g h i j =
-    ap (λ (x : List StackEntry). held x c.nodes c.children c.rest c.counter c.errors c.mode c.steps)
-    a
-    ∙ ap (λ (x : List Node). held d.stack x c.children c.rest c.counter c.errors c.mode c.steps) b
-    ∙ ap (λ (x : List StackEntry). held d.stack d.nodes x c.rest c.counter c.errors c.mode c.steps)
-    e
-    ∙ ap (λ (x : Rest). held d.stack d.nodes d.children x c.counter c.errors c.mode c.steps) f
-    ∙ ap (λ (x : ℕ). held d.stack d.nodes d.children d.rest x c.errors c.mode c.steps) g
-    ∙ ap (λ (x : ℕ). held d.stack d.nodes d.children d.rest d.counter x c.mode c.steps) h
-    ∙ ap (λ (x : Mode). held d.stack d.nodes d.children d.rest d.counter d.errors x c.steps) i
-    ∙ ap (λ (x : ℕ). held d.stack d.nodes d.children d.rest d.counter d.errors d.mode x) j
+same_content c d a b e f g h i j = λ k. record {
+  stack = a k;
+  nodes = b k;
+  children = e k;
+  rest = f k;
+  counter = g k;
+  errors = h k;
+  mode = i k;
+  steps = j k;
+}
 
 -- the state of the stack is the one on top
 at_top : (p : Place) → FactsOf p

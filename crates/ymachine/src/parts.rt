@@ -15,7 +15,7 @@ use crate::rest::{self, Remaining};
 use crate::tables::{goto, rule_of};
 use std::alloc::{AllocError, Global};
 use ylalr::ERROR;
-use ysymbols::Sym;
+use ysymbols::{Sym, let_go};
 use ytables::Tables;
 
 /// A symbol of the stack, the state to which the stack up to it leads, and its node.
@@ -61,18 +61,8 @@ pub struct Parts {
 }
 
 impl Drop for Parts {
-    // A call in each owner, which keeps their proofs short.
     fn drop(self) {
-        let Parts {
-            stack: _,
-            nodes: _,
-            children: _,
-            rest: _,
-            counter: _,
-            errors: _,
-            mode: _,
-            steps: _,
-        } = self;
+        let_go!(self: Parts { stack, nodes, children, rest, counter, errors, mode, steps });
     }
 }
 

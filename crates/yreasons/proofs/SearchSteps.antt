@@ -81,15 +81,8 @@ pub gives_moved : {m : Collection} {p v : Place} {c : Cause} (d : ℕ) → v.ite
 gives_moved d e (passes o n) = absurd (omega (arith, e))
 gives_moved {m = m} d e (moves {q = q} {n = n} {r = r} {d = f} {x = x} {y = y} t h o g) =
     let same : f ≡ d = omega (arith, e) in
-    subst (λ z. IsMoved m (place_of q r f) (place_of n r (suc f)) z) same (record {
-      symbol = x;
-      rest = y;
-      place = refl;
-      there = t;
-      next = h;
-      other = o;
-      goto = g;
-    })
+    subst (λ z. IsMoved m (place_of q r f) (place_of n r (suc f)) z) same
+    (record { symbol = x; rest = y; place = refl; there = t; next = h; other = o; goto = g })
 
 -- the place p gives to v, whose dot is at 0, by the closure
 pub record IsPassed (m : Collection) (p v : Place) : Type 0 where

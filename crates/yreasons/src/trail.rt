@@ -9,6 +9,7 @@ use crate::reason::{Cause, Place};
 use std::alloc::{AllocError, Global};
 use std::collections::HashMap;
 use std::marker::Model;
+use ysymbols::let_go;
 
 /// A place, and the entry to which it gives each lookahead of its item.
 #[derive(Clone, Copy, Drop)]
@@ -29,12 +30,8 @@ pub struct Trail {
 }
 
 impl Drop for Trail {
-    // A call in each owner, which keeps their proofs short.
     fn drop(self) {
-        let Trail {
-            entries: _,
-            known: _,
-        } = self;
+        let_go!(self: Trail { entries, known });
     }
 }
 

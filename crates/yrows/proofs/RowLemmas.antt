@@ -43,6 +43,21 @@ worded m at w = record {
       set m.words at w;
 }
 
+-- a word by equal rows
+pub word_united : (v m : BitRows) (at more w : ℕ) → v ≡ m → w ≡ get_or m.words at 0 →
+    worded v at (bit_or w more) ≡ unite m at more
+word_united v m at more w e f = ap (λ (v : BitRows). worded v at (bit_or w more)) e
+    ∙ ap (λ w. worded m at (bit_or w more)) f
+
+-- a word of a row by equal rows
+pub row_united : (v n : BitRows) {new : BitRows} (to k x : ℕ) →
+    new ≡ unite n (to * v.span + k) x → v ≡ n → new ≡ unite n (to * n.span + k) x
+row_united v n to k x e f = e ∙ ap (λ (v : BitRows). unite n (to * v.span + k) x) f
+
+-- a number in the span of equal rows
+pub within_span : (v m n : BitRows) (k : ℕ) → k < v.span → v ≡ m → n.span ≡ m.span → k < n.span
+within_span v m n k h e f = subst (λ t. k < t) (ap (λ (v : BitRows). v.span) e ∙ sym f) h
+
 -- whether bit k of a word is set
 abbrev pub BitIs : ℕ → ℕ → Type 0
 BitIs w k = bit_at w k ≡ 1

@@ -9,6 +9,7 @@ ghost use Rattle.yrows.specs.Packed.{SameCells, IsWritten};
 use crate::slots::{Slots, blocked};
 use std::alloc::{AllocError, Global};
 use std::marker::Model;
+use ysymbols::let_go;
 
 /// Rows over one list of cells.
 pub struct Packed<T: Copy> {
@@ -24,15 +25,8 @@ pub struct Packed<T: Copy> {
 }
 
 impl<T: Copy> Drop for Packed<T> {
-    // A call in each owner, which keeps their proofs short.
     fn drop(self) {
-        let Packed {
-            cells: _,
-            owners: _,
-            displacements: _,
-            width: _,
-            slots: _,
-        } = self;
+        let_go!(self: Packed { cells, owners, displacements, width, slots });
     }
 }
 

@@ -5,6 +5,7 @@ ghost use Rattle.std.specs.Prelude.{◌<◌, ◌≤◌, ◌+◌, ◌^◌, All, l
 
 use std::alloc::{AllocError, Global};
 use std::collections::HashMap;
+use ysymbols::let_go;
 
 /// Bits in each word.
 const BITS: usize = 64;
@@ -19,13 +20,8 @@ pub struct Slots {
 }
 
 impl Drop for Slots {
-    // A call in each owner, which keeps their proofs short.
     fn drop(self) {
-        let Slots {
-            words: _,
-            full: _,
-            last: _,
-        } = self;
+        let_go!(self: Slots { words, full, last });
     }
 }
 

@@ -13,7 +13,7 @@ use std::alloc::Global;
 use ymachine::machine::{AtStart, Deed, Edit, StepFault, StepKind};
 use ymachine::tables::known;
 use ymachine::{Journal, PlaceParser};
-use ysymbols::Sym;
+use ysymbols::{Sym, let_go};
 use ytables::Tables;
 use ytokens::tokens::Tokens;
 
@@ -31,12 +31,8 @@ pub struct Session {
 }
 
 impl Drop for Session {
-    // A call in each owner, which keeps their proofs short.
     fn drop(self) {
-        let Session {
-            journal: _,
-            later: _,
-        } = self;
+        let_go!(self: Session { journal, later });
     }
 }
 

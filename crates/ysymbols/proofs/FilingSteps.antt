@@ -2,12 +2,16 @@
 use Rattle.std.proofs.Common.{ℕ, zero, suc, ◌≡◌, ◌≢◌, ◌<◌, ◌+◌, ◌⊎◌, List, [], ◌∷◌, ◌++◌, length}
 use Rattle.std.proofs.Common.{get_or, slice_index, refl, sym, ◌∙◌, ap, subst, inl, inr, arith}
 use Rattle.std.proofs.Common.{rules, get_or-set_other, get_or-set_same}
+use Rattle.std.proofs.Common.{Vec}
+use Rattle.std.specs.Global.{Global}
+use Rattle.std.proofs.lemmas.List.{length-map}
 use Rattle.std.proofs.Math.ListN.{set, length-set}
 use Rattle.std.specs.List.{Contains}
 use Rattle.std.proofs.lemmas.List.Elements.{Contains-append_left, Contains-push, Contains-get_or}
 use Rattle.std.proofs.lemmas.List.Elements.{Contains-push_cases}
 use Rattle.ysymbols.specs.Grammar.{Production, RuleValue}
-use Rattle.ysymbols.specs.Marking.{IsFiled, IsFiledEach, AreListed, list_at, rule_at}
+use Rattle.ysymbols.specs.Marking.{IsFiled, IsFiledEach, AreListed, items_of, list_at, lists_of}
+use Rattle.ysymbols.specs.Marking.{rule_at}
 use Rattle.ysymbols.proofs.MarkingSteps.{alone}
 use Rattle.ysymbols.proofs.Numbers.{below_or_last}
 use Rattle.std.proofs.lemmas.Bool.{cases_eq}
@@ -116,6 +120,16 @@ listed_none rules n ls e f = record {
   sized = e;
   within = λ s q c. absurd (none_in q (subst (λ (x : List ℕ). Contains x q) (f s) c));
   each = λ r k h l. absurd (omega arith);
+}
+
+-- so are the lists that the code has
+pub started : {part : Production → List ℕ} (rules : List RuleValue) (n : ℕ)
+    (lists : Vec (Vec ℕ Global) Global) → length lists.items ≡ n →
+    ((s : ℕ) → list_at (lists_of lists) s ≡ []) →
+    record { sized : length lists.items ≡ n; filed : AreListed part rules 0 n (lists_of lists) }
+started rules n lists e f = record {
+  sized = e;
+  filed = listed_none rules n (lists_of lists) (length-map lists.items items_of ∙ e) f;
 }
 
 below_next : (q r : ℕ) → (q < r) ⊎ (q ≡ r) → q < r + 1

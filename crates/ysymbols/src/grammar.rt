@@ -9,6 +9,7 @@ ghost use Rattle.ysymbols.specs.Names.{find_in, printed_literal};
 ghost use Rattle.ysymbols.specs.Sources.{text_view};
 ghost use Rattle.ysymbols.specs.WellFormed.{IsWhole, WellFormed};
 
+use crate::let_go;
 use crate::names::{Printed, SymbolTable, number_in};
 use crate::precedence::Precedence;
 use crate::productive::productive;
@@ -37,17 +38,10 @@ pub struct Grammar {
 }
 
 impl Drop for Grammar {
-    // A call in each owner, which keeps their proofs short.
     fn drop(self) {
-        let Grammar {
-            names: _,
-            tokens: _,
-            numbers: _,
-            precedences: _,
-            rules: _,
-            action_texts: _,
-            reachable: _,
-        } = self;
+        let_go!(self: Grammar {
+            names, tokens, numbers, precedences, rules, action_texts, reachable
+        });
     }
 }
 

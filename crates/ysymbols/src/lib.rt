@@ -13,6 +13,15 @@ pub mod rule;
 pub mod texts;
 pub mod worklist;
 
+/// Lets a value go field by field, in a `drop` of its own. Such a type costs each owner a call
+/// alone, which keeps their proofs short.
+#[macro_export]
+macro_rules! let_go {
+    ($value:ident: $kind:ident { $($field:ident),* }) => {
+        let $kind { $($field: _),* } = $value;
+    };
+}
+
 pub use grammar::Grammar;
 pub use precedence::{Associativity, Precedence};
 pub use rule::{Rule, Sym};

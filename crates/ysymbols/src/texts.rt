@@ -4,6 +4,7 @@ ghost use Rattle.std.specs.Prelude.{◌≡◌, ◌++◌, ◌∷◌, [], None, sl
 ghost use Rattle.ysymbols.specs.Sources.{part_of};
 ghost use Rattle.ysymbols.specs.Sources.{option_view, text_view};
 
+use crate::let_go;
 use std::alloc::{AllocError, Global};
 use std::marker::Model;
 
@@ -39,12 +40,8 @@ pub struct Texts {
 }
 
 impl Drop for Texts {
-    // A call in each owner, which keeps their proofs short.
     fn drop(self) {
-        let Texts {
-            source: _,
-            spans: _,
-        } = self;
+        let_go!(self: Texts { source, spans });
     }
 }
 

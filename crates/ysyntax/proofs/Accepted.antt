@@ -216,6 +216,17 @@ unfolding Meaning
 rule_end y b p e mb mp = subst (To Ruled Body) (sym e)
     (record { last = mp.last; such = mp.such; leads = then mb mp.leads })
 
+-- a rule, which a kind begins that may follow a rule
+headed : (k : Kind) → after_rule k ≡ Some Body → (y : List Kind) →
+    Stands Meaning (lexeme k ∷ (rbody ∷ prec ∷ [])) y → Meaning rule y
+unfolding Meaning
+headed k leads y h = λ q u.
+    let (r, e, (b, r2, e2, mb, p)) = begun k (rbody ∷ prec ∷ []) y h in
+    let m = rule_end r b r2 e2 mb (single prec r2 p) in
+    subst (To Ruled q) (sym e)
+    (let first = ends_rule q u k Body leads in
+    record { last = m.last; such = m.such; leads = move q k Body first m.leads })
+
 closed : (n : Symbol) (body : List Symbol) (y : List Kind) → Production n body →
     Stands Meaning body y → Meaning n y
 unfolding Meaning
@@ -346,24 +357,8 @@ closed _ _ y rules_more (d, r, e, md, p) =
     let m = single rule r p md.last md.such in
     subst (To Ruled RulesMark) (sym e)
     (record { last = m.last; such = m.such; leads = then md.leads m.leads })
-closed _ _ y rule_head h = λ q u.
-    let (r, e, (b, r2, e2, mb, p)) = begun kind.CIdentifier (rbody ∷ prec ∷ []) y h in
-    let m = rule_end r b r2 e2 mb (single prec r2 p) in
-    subst (To Ruled q) (sym e) (record {
-      last = m.last;
-      such = m.such;
-      leads = move q kind.CIdentifier Body
-          (ends_rule q u kind.CIdentifier Body refl) m.leads;
-    })
-closed _ _ y rule_bar h = λ q u.
-    let (r, e, (b, r2, e2, mb, p)) = begun kind.Bar (rbody ∷ prec ∷ []) y h in
-    let m = rule_end r b r2 e2 mb (single prec r2 p) in
-    subst (To Ruled q) (sym e) (record {
-      last = m.last;
-      such = m.such;
-      leads = move q kind.Bar Body
-          (ends_rule q u kind.Bar Body refl) m.leads;
-    })
+closed _ _ y rule_head h = headed kind.CIdentifier refl y h
+closed _ _ y rule_bar h = headed kind.Bar refl y h
 closed _ _ y rbody_empty h = record { is = ap (state_after (Some Body)) h }
 closed _ _ y rbody_symbol (b, r, e, mb, p) =
     subst (λ z. Leads Body z Body) (sym e)

@@ -7,4 +7,5 @@ pub mod Answering
 pub mod Trees
 pub mod OneTree
 pub mod SiteSteps
+pub mod SoFar
 pub mod TreeSteps

@@ -458,45 +458,13 @@ end_first None (Some t) n x w h = let z : false ≡ true = w refl in cc
 
 rule_text_same : (c d : RuleText) → c.left ≡ d.left → c.body ≡ d.body → c.prec ≡ d.prec →
     c.last ≡ d.last → c.semicolons ≡ d.semicolons → c ≡ d
-rule_text_same c d e f g h k =
-    ap (λ (z : Option (List ℕ)). let r : RuleText = record {
-      left = z;
-      body = c.body;
-      prec = c.prec;
-      last = c.last;
-      semicolons = c.semicolons;
-    } in r) e
-    ∙ ap (λ (z : List BodyPart). let r : RuleText = record {
-      left = d.left;
-      body = z;
-      prec = c.prec;
-      last = c.last;
-      semicolons = c.semicolons;
-    } in r) f
-    ∙ ap (λ (z : Option Identifier). let r : RuleText = record {
-      left = d.left;
-      body = d.body;
-      prec =
-          z;
-      last = c.last;
-      semicolons = c.semicolons;
-    } in r) g
-    ∙ ap (λ (z : Option (List ℕ)). let r : RuleText = record {
-      left = d.left;
-      body = d.body;
-      prec =
-          d.prec;
-      last = z;
-      semicolons = c.semicolons;
-    } in r) h
-    ∙ ap (λ (z : ℕ). let r : RuleText = record {
-      left = d.left;
-      body = d.body;
-      prec = d.prec;
-      last =
-          d.last;
-      semicolons = z;
-    } in r) k
+rule_text_same c d e f g h k = λ i. record {
+  left = e i;
+  body = f i;
+  prec = g i;
+  last = h i;
+  semicolons = k i;
+}
 
 regroup : (a b c d x : List Lexeme) → (a ++ (b ++ (c ++ d))) ++ x ≡ a ++ (b ++ (c ++ (d ++ x)))
 regroup a b c d x = simp append_assoc
@@ -567,22 +535,8 @@ mark_first p false h = refl
 
 tree_same : (t u : Tree) → t.definitions ≡ u.definitions → t.rule_texts ≡ u.rule_texts →
     t.second_mark ≡ u.second_mark → t ≡ u
-tree_same t u e f g =
-    ap (λ (z : List Definition). let r : Tree = record {
-      definitions = z;
-      rule_texts = t.rule_texts;
-      second_mark = t.second_mark;
-    } in r) e
-    ∙ ap (λ (z : List RuleText). let r : Tree = record {
-      definitions = u.definitions;
-      rule_texts = z;
-      second_mark = t.second_mark;
-    } in r) f
-    ∙ ap (λ (z : Bool). let r : Tree = record {
-      definitions = u.definitions;
-      rule_texts = u.rule_texts;
-      second_mark = z;
-    } in r) g
+tree_same t u e f g = λ i.
+    record { definitions = e i; rule_texts = f i; second_mark = g i }
 
 pub one_tree : (t u : Tree) → IsTree t → IsTree u → yield t ≡ yield u → t ≡ u
 one_tree t u h k e =

@@ -51,18 +51,7 @@ kind_sign _ = None
 
 sign_back : (s : Sign) → kind_sign (sign_kind s) ≡ Some s
 sign_back sign.Mark = refl
-sign_back sign.Token = refl
-sign_back sign.Left = refl
-sign_back sign.Right = refl
-sign_back sign.Nonassoc = refl
-sign_back sign.Types = refl
-sign_back sign.Start = refl
-sign_back sign.Union = refl
-sign_back sign.Prec = refl
-sign_back sign.Less = refl
-sign_back sign.Greater = refl
-sign_back sign.Bar = refl
-sign_back sign.Semicolon = refl
+sign_back _ = refl
 
 not_sign : (s : Sign) (k : Kind) → kind_sign k ≡ None → sign_kind s ≡ k → ⊥
 not_sign s k n e = let z : Some s ≡ None = sym (sign_back s) ∙ ap kind_sign e ∙ n in cc

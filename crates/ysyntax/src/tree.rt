@@ -1,5 +1,6 @@
 //! The syntax tree of a grammar file: its declarations and its rules, in their order.
 
+use ysymbols::let_go;
 /// A name or a literal.
 #[derive(Clone, Copy, Drop)]
 pub enum Identifier<'a> {
@@ -137,12 +138,7 @@ pub struct Tree<'a> {
 }
 
 impl Drop for Tree<'_> {
-    // A call in each owner, which keeps their proofs short.
     fn drop(self) {
-        let Tree {
-            definitions: _,
-            rule_texts: _,
-            second_mark: _,
-        } = self;
+        let_go!(self: Tree { definitions, rule_texts, second_mark });
     }
 }

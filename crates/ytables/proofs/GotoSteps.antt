@@ -167,6 +167,10 @@ module _ (m : Collection) (q t : ℕ) (xs : List Item) where
       go true z = refl
       go false z = no_goto m q (t + s) st l (omega (arith, len, b)) (sym whole ∙ z)
 
+-- a number of tokens is that of an equal grammar
+pub tokens_by : {n : ℕ} {v w : GrammarValue} → n ≡ v.bare.tokens → v ≡ w → n ≡ w.bare.tokens
+tokens_by e f = e ∙ ap (λ (v : GrammarValue). v.bare.tokens) f
+
 -- one more row
 pub gotos_step : (m : Collection) (n : ℕ) (old new : PackedRows ℕ) (row : List (Option ℕ)) →
     length old.rows ≡ n → old.width + m.grammar.bare.tokens ≡ m.grammar.bare.symbols →

@@ -86,20 +86,39 @@ module _ (class : ℕ → Class) where
       (rs ++ r ∷ [])
   all_more rs y r t = ap (λ n. n + 1) t.all ∙ sym (length_push rs r)
 
+  -- one more rule that doesn't lose
+  kept_push : (rs : List ℕ) (y : Tally) (r : ℕ) {ban beat : Bool} {rests : ℕ} →
+      IsTally class rs y → not (is_lose (class r)) ≡ true →
+      ban ≡ list_any (λ s. is_ban (class s)) (rs ++ r ∷ []) →
+      beat ≡ list_any (λ s. is_beat (class s)) (rs ++ r ∷ []) →
+      rests ≡ count_by (λ s. is_rest (class s)) (rs ++ r ∷ []) →
+      IsTally class (rs ++ r ∷ []) (record {
+        banned = ban;
+        beaten = beat;
+        rests = rests;
+        kept = y.kept + 1;
+        first = lesser y r;
+        all = y.all + 1;
+      })
+  kept_push rs y r t h ban beat rests = record {
+    banned = ban;
+    beaten = beat;
+    rests = rests;
+    kept = kept_more rs y r t h;
+    first = first_more rs y r t h;
+    all = all_more rs y r t;
+  }
+
   -- one more rule
   pub tally_push : (rs : List ℕ) (y : Tally) (r : ℕ) → IsTally class rs y →
       IsTally class (rs ++ r ∷ []) (tally_more y r (class r))
   tally_push rs y r t = go (class r) refl
     where
       go : (k : Class) → class r ≡ k → IsTally class (rs ++ r ∷ []) (tally_more y r k)
-      go Beat e = record {
-        banned = t.banned ∙ sym (any_no (λ s. is_ban (class s)) rs r (ap is_ban e));
-        beaten = sym (any_yes (λ s. is_beat (class s)) rs r (ap is_beat e));
-        rests = t.rests ∙ sym (count_no (λ s. is_rest (class s)) rs r (ap is_rest e));
-        kept = kept_more rs y r t (ap (λ k. not (is_lose k)) e);
-        first = first_more rs y r t (ap (λ k. not (is_lose k)) e);
-        all = all_more rs y r t;
-      }
+      go Beat e = kept_push rs y r t (ap (λ k. not (is_lose k)) e)
+          (t.banned ∙ sym (any_no (λ s. is_ban (class s)) rs r (ap is_ban e)))
+          (sym (any_yes (λ s. is_beat (class s)) rs r (ap is_beat e)))
+          (t.rests ∙ sym (count_no (λ s. is_rest (class s)) rs r (ap is_rest e)))
       go Lose e = record {
         banned = t.banned ∙ sym (any_no (λ s. is_ban (class s)) rs r (ap is_ban e));
         beaten = t.beaten ∙ sym (any_no (λ s. is_beat (class s)) rs r (ap is_beat e));
@@ -110,23 +129,15 @@ module _ (class : ℕ → Class) where
             (sym (filter_no (λ s. not (is_lose (class s))) rs r (ap (λ k. not (is_lose k)) e)));
         all = all_more rs y r t;
       }
-      go Ban e = record {
-        banned = sym (any_yes (λ s. is_ban (class s)) rs r (ap is_ban e));
-        beaten = t.beaten ∙ sym (any_no (λ s. is_beat (class s)) rs r (ap is_beat e));
-        rests = t.rests ∙ sym (count_no (λ s. is_rest (class s)) rs r (ap is_rest e));
-        kept = kept_more rs y r t (ap (λ k. not (is_lose k)) e);
-        first = first_more rs y r t (ap (λ k. not (is_lose k)) e);
-        all = all_more rs y r t;
-      }
-      go Rest e = record {
-        banned = t.banned ∙ sym (any_no (λ s. is_ban (class s)) rs r (ap is_ban e));
-        beaten = t.beaten ∙ sym (any_no (λ s. is_beat (class s)) rs r (ap is_beat e));
-        rests = ap (λ n. n + 1) t.rests ∙ sym (count_with (λ s. is_rest (class s)) rs r true
-            (ap is_rest e));
-        kept = kept_more rs y r t (ap (λ k. not (is_lose k)) e);
-        first = first_more rs y r t (ap (λ k. not (is_lose k)) e);
-        all = all_more rs y r t;
-      }
+      go Ban e = kept_push rs y r t (ap (λ k. not (is_lose k)) e)
+          (sym (any_yes (λ s. is_ban (class s)) rs r (ap is_ban e)))
+          (t.beaten ∙ sym (any_no (λ s. is_beat (class s)) rs r (ap is_beat e)))
+          (t.rests ∙ sym (count_no (λ s. is_rest (class s)) rs r (ap is_rest e)))
+      go Rest e = kept_push rs y r t (ap (λ k. not (is_lose k)) e)
+          (t.banned ∙ sym (any_no (λ s. is_ban (class s)) rs r (ap is_ban e)))
+          (t.beaten ∙ sym (any_no (λ s. is_beat (class s)) rs r (ap is_beat e)))
+          (ap (λ n. n + 1) t.rests ∙ sym (count_with (λ s. is_rest (class s)) rs r true
+          (ap is_rest e)))
 
 -- the reduction by the least of these rules
 reduced_is : (xs : List ℕ) (y : Tally) (choice : Bool) → y.kept ≡ length xs →

@@ -24,7 +24,7 @@ use std::marker::Model;
 use ylalr::{Automaton, token_count};
 use yrows::list::Sequence;
 use yrows::packed::Packed;
-use ysymbols::{Grammar, Sym};
+use ysymbols::{Grammar, Sym, let_go};
 
 /// How many conflicts the cells of all states count.
 #[derive(Clone, Copy, Debug, Drop, PartialEq, Eq)]
@@ -46,16 +46,8 @@ struct Found {
 }
 
 impl Drop for Found {
-    // A call in each owner, which keeps their proofs short.
     fn drop(self) {
-        let Found {
-            actions: _,
-            gotos: _,
-            defaults: _,
-            conflicts: _,
-            counts: _,
-            chosen: _,
-        } = self;
+        let_go!(self: Found { actions, gotos, defaults, conflicts, counts, chosen });
     }
 }
 
@@ -66,12 +58,8 @@ pub struct Tables {
 }
 
 impl Drop for Tables {
-    // A call in each owner, which keeps their proofs short.
     fn drop(self) {
-        let Tables {
-            automaton: _,
-            found: _,
-        } = self;
+        let_go!(self: Tables { automaton, found });
     }
 }
 

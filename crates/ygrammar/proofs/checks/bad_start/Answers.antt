@@ -1,7 +1,7 @@
 use Rattle.std.proofs.Common.{ℕ, suc, ◌≡◌, ◌-◌, List, [], ◌∷◌, length, Option, Some, None, get_or}
 use Rattle.std.proofs.Common.{refl, sym, ◌∙◌, ap, arith}
 use Rattle.std.specs.List.{last_or}
-use Rattle.youtline.specs.declared.outline.Started.{Started}
+use Rattle.ydeclarations.specs.declared.outline.Started.{Started}
 use Rattle.ysymbols.specs.Sources.{option_view}
 use Rattle.ygrammar.proofs.checks.bad_start.Goals as goal
 

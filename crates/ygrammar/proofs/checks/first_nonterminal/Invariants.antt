@@ -2,7 +2,7 @@ use Rattle.std.proofs.Common.{◌≡◌, drop, length}
 use Rattle.std.specs.List.{find}
 use Rattle.ysymbols.specs.NameTexts.{texts}
 use Rattle.ysymbols.specs.Names.{number_in}
-use Rattle.youtline.specs.Printed.{printed_name}
+use Rattle.ydeclarations.specs.Printed.{printed_name}
 use Rattle.ygrammar.specs.Numbered.{is_between}
 use Rattle.ysyntax.specs.TreeViews.{occurrence_view}
 use Rattle.ygrammar.proofs.checks.first_nonterminal.Given as goal

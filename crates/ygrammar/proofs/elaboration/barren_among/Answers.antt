@@ -5,7 +5,7 @@ use Rattle.ysymbols.specs.Marking.{numbered_grammar}
 use Rattle.ysymbols.specs.NameTexts.{texts}
 use Rattle.ysymbols.specs.Names.{Name, number_in}
 use Rattle.ysymbols.proofs.NameSteps.{length_texts}
-use Rattle.youtline.specs.Elaboration.{symbols}
+use Rattle.ydeclarations.specs.Elaboration.{symbols}
 use Rattle.ysyntax.specs.Tree.{Tree}
 use Rattle.ysyntax.specs.TreeViews.{name_view, tree_view}
 use Rattle.ygrammar.specs.declared.elaboration.Named.{Named}

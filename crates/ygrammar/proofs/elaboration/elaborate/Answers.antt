@@ -2,7 +2,7 @@ use Rattle.std.proofs.Common.{refl}
 use Rattle.ygrammar.specs.Elaborated.{IsReady}
 use Rattle.ysyntax.specs.Tree.{yield}
 use Rattle.ysyntax.specs.TreeViews.{tree_view}
-use Rattle.youtline.specs.OutlineSites.{IsPlaced}
+use Rattle.ydeclarations.specs.OutlineSites.{IsPlaced}
 use Rattle.ysyntax.specs.SiteViews.{tree_sites}
 use Rattle.ygrammar.proofs.PlaceSteps.{memory_placed, passes_place}
 use Rattle.ygrammar.proofs.MeaningSteps.{are_in}

@@ -1,11 +1,11 @@
 use Rattle.std.proofs.Common.{refl, sym, subst, take, ◌≤◌, ◌∙◌}
-use Rattle.youtline.specs.declared.mistake.Mistake.TheVariants as mistakes
+use Rattle.ydeclarations.specs.declared.mistake.Mistake.TheVariants as mistakes
 use Rattle.ygrammar.specs.Elaborated.{Decides}
 use Rattle.ysymbols.specs.Marking.{AreIn}
-use Rattle.youtline.specs.Mistakes.{order}
+use Rattle.ydeclarations.specs.Mistakes.{order}
 use Rattle.ysymbols.proofs.NameSteps.{length_texts}
 use Rattle.std.proofs.Common.{◌++◌}
-use Rattle.youtline.specs.OutlineSites.{IsPlaced}
+use Rattle.ydeclarations.specs.OutlineSites.{IsPlaced}
 use Rattle.ygrammar.proofs.PlaceSteps.{passes_place}
 use Rattle.ygrammar.proofs.ElaborationSteps.{clear_5, clear_6, decides, more, refuses}
 use Rattle.ygrammar.proofs.MeaningSteps.{all_productive, bare_same, symbols_counted, unproductive}

@@ -1,12 +1,12 @@
 use Rattle.std.proofs.Common.{ap, refl, sym, subst, length, List, ℕ, ◌≤◌, ◌∙◌}
-use Rattle.youtline.specs.declared.mistake.Mistake.TheVariants as mistakes
+use Rattle.ydeclarations.specs.declared.mistake.Mistake.TheVariants as mistakes
 use Rattle.ygrammar.specs.Elaborated.{AreNumbered, Decides}
-use Rattle.youtline.specs.Elaboration.{tokens}
-use Rattle.youtline.specs.Mistakes.{Holds}
+use Rattle.ydeclarations.specs.Elaboration.{tokens}
+use Rattle.ydeclarations.specs.Mistakes.{Holds}
 use Rattle.ysymbols.specs.NameTexts.{texts}
 use Rattle.ysyntax.specs.TreeViews.{tree_view}
 use Rattle.std.proofs.Common.{◌++◌}
-use Rattle.youtline.specs.OutlineSites.{IsPlaced}
+use Rattle.ydeclarations.specs.OutlineSites.{IsPlaced}
 use Rattle.ygrammar.proofs.PlaceSteps.{passes_place}
 use Rattle.ygrammar.proofs.ElaborationSteps.{passes, refuses}
 use Rattle.ygrammar.proofs.MeaningSteps.{are_in, numbered_rules}

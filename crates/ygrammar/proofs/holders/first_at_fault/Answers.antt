@@ -1,5 +1,5 @@
 use Rattle.std.proofs.Common.{◌<◌, inl, inr, get_or, refl, arith, subst, ◌≤◌}
-use Rattle.youtline.proofs.OwnSteps.{digits_are, no_digits}
+use Rattle.ydeclarations.proofs.OwnSteps.{digits_are, no_digits}
 use Rattle.ygrammar.proofs.NumberPlaces.{next_none, next_one, none_faulty, stands_here}
 use Rattle.ygrammar.proofs.holders.first_at_fault.Goals as goal
 

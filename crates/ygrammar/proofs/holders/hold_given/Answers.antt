@@ -1,12 +1,12 @@
 use Rattle.std.proofs.Common.{◌≡◌, ◌+◌, List, get_or, length, map, sym, subst, refl, ◌∙◌}
 use Rattle.std.proofs.Common.{arith, length-set, Vec}
 use Rattle.std.specs.Global.{Global}
-use Rattle.youtline.specs.Outline.{listed_view}
+use Rattle.ydeclarations.specs.Outline.{listed_view}
 use Rattle.ygrammar.specs.declared.holders.Holders.{Holders}
 use Rattle.ygrammar.specs.declared.holders.Holders.TheVariants.{Nobody}
 use Rattle.ysymbols.specs.Grammar.{number_bound}
 use Rattle.ysymbols.specs.NameTexts.{texts}
-use Rattle.youtline.proofs.OwnSteps.{digits_are, no_digits}
+use Rattle.ydeclarations.proofs.OwnSteps.{digits_are, no_digits}
 use Rattle.ygrammar.specs.Numbers.{HasNumber, IsHolders}
 use Rattle.ygrammar.proofs.NumberPlaces.{more_given, none_at, unfit_at}
 use Rattle.ygrammar.proofs.holders.hold_given.Goals.{in-Some+in-Some-fit_number}

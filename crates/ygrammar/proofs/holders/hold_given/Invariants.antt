@@ -1,7 +1,7 @@
 use Rattle.std.proofs.Common.{ℕ, ◌≡◌, List, Option, length, map, get_or}
 use Rattle.ysymbols.specs.Grammar.{number_bound}
 use Rattle.ysymbols.specs.NameTexts.{texts}
-use Rattle.youtline.specs.Outline.{listed_view}
+use Rattle.ydeclarations.specs.Outline.{listed_view}
 use Rattle.ygrammar.specs.declared.holders.Holders.TheVariants.{Nobody}
 use Rattle.ygrammar.specs.Numbers.{AreHolders, HasNumber, IsHolders}
 use Rattle.ygrammar.proofs.holders.hold_given.Given as goal

@@ -4,16 +4,16 @@ use Rattle.ygrammar.specs.declared.holders.Holders.{Holders}
 use Rattle.ygrammar.specs.Numbers.{FaultyAt}
 use Rattle.ygrammar.proofs.BadPlaces.{bad_placed, held_here, small_whole, wrong_here}
 use Rattle.ygrammar.specs.declared.holders.Holders.TheVariants.{Nobody, Several}
-use Rattle.youtline.specs.declared.outline.Listed.{Listed}
+use Rattle.ydeclarations.specs.declared.outline.Listed.{Listed}
 use Rattle.ysyntax.specs.declared.tree.Occurrence.{Occurrence}
-use Rattle.youtline.specs.Elaboration.{digits_number, listings, own_numbers, tokens}
+use Rattle.ydeclarations.specs.Elaboration.{digits_number, listings, own_numbers, tokens}
 use Rattle.ysymbols.specs.Grammar.{number_bound}
 use Rattle.ysymbols.specs.NameTexts.{texts}
-use Rattle.youtline.specs.Mistakes.{Clashes}
+use Rattle.ydeclarations.specs.Mistakes.{Clashes}
 use Rattle.ygrammar.specs.Numbers.{AreHolders, IsOwn}
-use Rattle.youtline.specs.Outline.{Outlines, listed_view}
-use Rattle.youtline.specs.Owned.{AllFit, TellsNumbers}
-use Rattle.youtline.specs.Told.{IsTold}
+use Rattle.ydeclarations.specs.Outline.{Outlines, listed_view}
+use Rattle.ydeclarations.specs.Owned.{AllFit, TellsNumbers}
+use Rattle.ydeclarations.specs.Told.{IsTold}
 use Rattle.ysyntax.specs.Tree.{Identifier, Tree}
 use Rattle.ysyntax.specs.TreeViews.{occurrence_view}
 use Rattle.ygrammar.proofs.NumberSteps.{clash_held, none_clash}

@@ -5,7 +5,7 @@ use Rattle.ysyntax.specs.declared.fault.GrammarFault.{GrammarFault}
 use Rattle.ysyntax.specs.declared.fault.PlacedFault.{PlacedFault}
 use Rattle.ysyntax.specs.SiteViews.{tree_sites}
 use Rattle.ysyntax.specs.TreeViews.{tree_view}
-use Rattle.youtline.specs.Places.{IsBarren}
+use Rattle.ydeclarations.specs.Places.{IsBarren}
 use Rattle.ygrammar.specs.Faults.{IsFaultIn}
 use Rattle.ygrammar.specs.Parsed.{AreBarren, AreBarrenOf}
 use Rattle.ygrammar.proofs.AllPlaces.{all_first}

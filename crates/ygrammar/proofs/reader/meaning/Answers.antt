@@ -1,5 +1,5 @@
 use Rattle.std.proofs.Common.{subst}
-use Rattle.youtline.specs.Mistakes.{IsFirst, order}
+use Rattle.ydeclarations.specs.Mistakes.{IsFirst, order}
 use Rattle.ysyntax.specs.SiteViews.{tree_sites}
 use Rattle.ysyntax.specs.TreeViews.{tree_view}
 use Rattle.ygrammar.proofs.OneMeaning.{none_first}

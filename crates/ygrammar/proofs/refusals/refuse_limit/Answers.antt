@@ -1,7 +1,7 @@
 use Rattle.std.proofs.Common.{ap, sym, ◌∙◌, ◌≡◌, ◌≤◌, length, refl, subst, List, ℕ}
 use Rattle.std.proofs.lemmas.List.{length-map}
-use Rattle.youtline.specs.Elaboration.{rules as rules_of_tree, symbols as symbols_of_tree}
-use Rattle.youtline.specs.Elaboration.{token_precedences}
+use Rattle.ydeclarations.specs.Elaboration.{rules as rules_of_tree, symbols as symbols_of_tree}
+use Rattle.ydeclarations.specs.Elaboration.{token_precedences}
 use Rattle.ysymbols.specs.Grammar.{RuleValue, most_rules, most_symbols}
 use Rattle.ysymbols.specs.NameTexts.{texts}
 use Rattle.ygrammar.specs.Numbered.{rule_numbers}

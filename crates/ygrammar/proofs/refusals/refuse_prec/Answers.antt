@@ -2,7 +2,7 @@ use Rattle.std.proofs.Common.{ap, ◌∙◌, map, refl, List, length}
 use Rattle.ysyntax.specs.declared.tree.Occurrence.{Occurrence}
 use Rattle.ysymbols.specs.NameTexts.{texts}
 use Rattle.ysymbols.specs.Names.{number_in}
-use Rattle.youtline.specs.Printed.{printed_name}
+use Rattle.ydeclarations.specs.Printed.{printed_name}
 use Rattle.ygrammar.specs.Numbered.{is_between}
 use Rattle.ysyntax.specs.TreeViews.{occurrence_view}
 use Rattle.ygrammar.proofs.MistakeSteps.{any_found, no_prec, prec_found}

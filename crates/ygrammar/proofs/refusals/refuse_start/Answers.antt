@@ -1,7 +1,7 @@
 use Rattle.std.proofs.Common.{ap, sym, ◌∙◌, map, length, refl, List}
-use Rattle.youtline.specs.declared.outline.Started.{Started}
+use Rattle.ydeclarations.specs.declared.outline.Started.{Started}
 use Rattle.ysymbols.specs.NameTexts.{texts}
-use Rattle.youtline.specs.Outline.{start_view}
+use Rattle.ydeclarations.specs.Outline.{start_view}
 use Rattle.ygrammar.proofs.MistakeSteps.{no_start, start_found}
 use Rattle.std.proofs.Common.{◌≡◌, Some, None, subst}
 use Rattle.std.specs.Prelude.{IfSome}

@@ -3,7 +3,7 @@ use Rattle.ysyntax.specs.declared.tree.Occurrence.{Occurrence}
 use Rattle.ysyntax.specs.declared.tree.NameAt.{NameAt}
 use Rattle.ysymbols.specs.NameTexts.{texts}
 use Rattle.ysymbols.specs.Names.{is_among}
-use Rattle.youtline.specs.Printed.{printed_name}
+use Rattle.ydeclarations.specs.Printed.{printed_name}
 use Rattle.ysyntax.specs.TreeViews.{occurrence_view, name_view}
 use Rattle.ygrammar.proofs.MistakeSteps.{all_defined, any_found, undefined_used, unknown_typed}
 use Rattle.ygrammar.proofs.PlaceSteps.{unknown_typed_at, unknown_used_at}

@@ -1,5 +1,5 @@
 use Rattle.std.proofs.Common.{◌≡◌, map, drop}
-use Rattle.youtline.specs.Elaboration.{body_from, rule_left}
+use Rattle.ydeclarations.specs.Elaboration.{body_from, rule_left}
 use Rattle.ysymbols.specs.NameTexts.{texts}
 use Rattle.ysymbols.specs.Names.{with_names}
 use Rattle.ysyntax.specs.TreeViews.{body_part_view}

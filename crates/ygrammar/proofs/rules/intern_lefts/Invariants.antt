@@ -1,5 +1,5 @@
 use Rattle.std.proofs.Common.{◌≡◌, [], map, drop}
-use Rattle.youtline.specs.Elaboration.{rule_left, rules_from}
+use Rattle.ydeclarations.specs.Elaboration.{rule_left, rules_from}
 use Rattle.ysymbols.specs.NameTexts.{texts}
 use Rattle.ysymbols.specs.Names.{with_names}
 use Rattle.ygrammar.specs.Numbered.{inner_after}

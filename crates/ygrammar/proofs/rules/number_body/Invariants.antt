@@ -1,5 +1,5 @@
 use Rattle.std.proofs.Common.{◌≡◌, ◌++◌, map, drop}
-use Rattle.youtline.specs.Elaboration.{body_from}
+use Rattle.ydeclarations.specs.Elaboration.{body_from}
 use Rattle.ysymbols.specs.NameTexts.{texts}
 use Rattle.ysymbols.specs.Names.{number_in}
 use Rattle.ygrammar.specs.Numbered.{inner_numbers}

@@ -1,7 +1,7 @@
 use Rattle.std.proofs.Common.{[], ◌≡◌, ◌<◌, ◌∙◌, subst, ap, drop, map, ◌++◌, ◌∷◌, ◌+◌, List, ℕ}
 use Rattle.std.proofs.Common.{length, arith}
 use Rattle.ysyntax.specs.declared.tree.RuleText.{RuleText}
-use Rattle.youtline.specs.Elaboration.{precedence_at, rules_from}
+use Rattle.ydeclarations.specs.Elaboration.{precedence_at, rules_from}
 use Rattle.ysymbols.specs.NameTexts.{texts}
 use Rattle.ygrammar.specs.Numbered.{chosen_token, rule_numbers}
 use Rattle.ysymbols.specs.Grammar.{RuleValue}

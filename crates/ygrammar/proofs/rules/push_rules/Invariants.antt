@@ -1,5 +1,5 @@
 use Rattle.std.proofs.Common.{◌≡◌, ◌++◌, [], map, drop}
-use Rattle.youtline.specs.Elaboration.{rules_from}
+use Rattle.ydeclarations.specs.Elaboration.{rules_from}
 use Rattle.ysymbols.specs.NameTexts.{texts}
 use Rattle.ygrammar.specs.Numbered.{inner_after, rule_numbers}
 use Rattle.ysyntax.specs.TreeViews.{rule_text_view}

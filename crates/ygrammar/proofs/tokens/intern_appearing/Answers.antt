@@ -3,7 +3,7 @@ use Rattle.std.proofs.lemmas.Result.{on_ok_weaker}
 use Rattle.ysyntax.specs.declared.tree.Occurrence.{Occurrence}
 use Rattle.ysymbols.specs.NameTexts.{texts}
 use Rattle.ysymbols.specs.Names.{is_among, with_names}
-use Rattle.youtline.specs.Printed.{printed_name}
+use Rattle.ydeclarations.specs.Printed.{printed_name}
 use Rattle.ysyntax.specs.TreeViews.{occurrence_view}
 use Rattle.ygrammar.proofs.NotingSteps.{both_noted}
 use Rattle.ygrammar.proofs.tokens.intern_appearing.Goals as goal

@@ -1,8 +1,8 @@
 use Rattle.std.proofs.Common.{◌≡◌, map, drop}
 use Rattle.ysymbols.specs.NameTexts.{texts}
 use Rattle.ysymbols.specs.Names.{with_names}
-use Rattle.youtline.specs.Elaboration.{listed_name}
-use Rattle.youtline.specs.Outline.{listed_view}
+use Rattle.ydeclarations.specs.Elaboration.{listed_name}
+use Rattle.ydeclarations.specs.Outline.{listed_view}
 use Rattle.ygrammar.proofs.tokens.intern_listed.Given as goal
 
 abbrev pub invariant-loop-one : goal.invariant-loop-one

@@ -3,8 +3,8 @@ use Rattle.ysymbols.specs.NameTexts.{texts}
 use Rattle.ysyntax.specs.TreeViews.{occurrence_view}
 use Rattle.std.specs.Prelude.{filter}
 use Rattle.ysymbols.specs.Names.{with_names}
-use Rattle.youtline.specs.Printed.{printed_name}
-use Rattle.youtline.specs.Elaboration.{is_literal}
+use Rattle.ydeclarations.specs.Printed.{printed_name}
+use Rattle.ydeclarations.specs.Elaboration.{is_literal}
 use Rattle.ygrammar.proofs.tokens.intern_literals.Given as goal
 
 abbrev pub invariant-loop-occurrence : goal.invariant-loop-occurrence

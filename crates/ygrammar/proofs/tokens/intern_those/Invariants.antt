@@ -3,7 +3,7 @@ use Rattle.ysymbols.specs.NameTexts.{texts}
 use Rattle.ysyntax.specs.TreeViews.{occurrence_view}
 use Rattle.std.specs.Prelude.{filter}
 use Rattle.ysymbols.specs.Names.{is_among, with_names}
-use Rattle.youtline.specs.Printed.{printed_name}
+use Rattle.ydeclarations.specs.Printed.{printed_name}
 use Rattle.ygrammar.proofs.tokens.intern_those.Given as goal
 
 abbrev pub invariant-loop-occurrence : goal.invariant-loop-occurrence

@@ -1,8 +1,8 @@
 use Rattle.std.proofs.Common.{◌++◌, [], ◌∷◌, List, map, codes}
 use Rattle.std.proofs.lemmas.Result.{IfOk-weaker}
-use Rattle.youtline.specs.Elaboration.{token_names_of}
+use Rattle.ydeclarations.specs.Elaboration.{token_names_of}
 use Rattle.ysymbols.specs.NameTexts.{texts}
-use Rattle.youtline.specs.Outline.{listed_view}
+use Rattle.ydeclarations.specs.Outline.{listed_view}
 use Rattle.ysyntax.specs.Tree.{Identifier}
 use Rattle.ysyntax.specs.TreeViews.{occurrence_view}
 use Rattle.ygrammar.proofs.NotingSteps.{tokens_noted}

@@ -1,9 +1,7 @@
-use Rattle.std.proofs.Common.{◌≡◌, ◌<◌, ◌+◌, length, get_or, subst, sym, arith}
-use Rattle.ylalr.specs.declared.items.Item.{Item}
+use Rattle.std.proofs.Common.{◌<◌, ◌+◌, length, subst, sym, arith}
 use Rattle.yrows.specs.Rows.{IsSized}
 use Rattle.yrows.proofs.Growth.{sized_grown}
-use Rattle.ylalr.proofs.ListSteps.{Wanting, wanting_end, wanting_more}
-use Rattle.yrows.proofs.Turn.{same_default}
+use Rattle.ylalr.proofs.ListSteps.{item_at, item_there, Wanting, wanting_end, wanting_more}
 use Rattle.ylalr.proofs.closure.want.Goals as goal
 use Rattle.ylalr.proofs.closure.want.Goals.{in-Some, in_default}
 
@@ -12,9 +10,9 @@ loop-item-preserved c =
     let g = c.args.grammar.now.bare in
     let xs = c.args.kernel.now in
     let n = c.loop-item.item-index in
-    let p : Item = get_or xs n (record { rule = 0; dot = 0 }) in
+    let p = item_at xs n in
     let h : n < length xs = omega arith in
-    let e : p ≡ get_or xs n p = same_default xs n (record { rule = 0; dot = 0 }) p h in
+    let e = item_there xs n h in
     let i = c.loop-item.invariant in
     elim c.match-symbol_after.branch [
       | in-Some w ↦ record {

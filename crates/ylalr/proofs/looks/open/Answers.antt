@@ -1,6 +1,6 @@
 use Rattle.std.proofs.Common.{◌<◌, ◌∙◌, drop, suc, refl, sym, subst}
 use Rattle.ysymbols.specs.Grammar.{body_of}
-use Rattle.ylalr.specs.Draft.{DraftValue, SoundDraft, Further, form_of}
+use Rattle.ylalr.specs.Draft.{DraftValue, SoundDraft, Further, GivesForm, OpensAt, form_of}
 use Rattle.yrows.specs.Rows.{IsSized}
 use Rattle.ylalr.proofs.DraftSteps.{rule_below, row_below, opens_none, opens_nowhere, opens_by}
 use Rattle.ylalr.proofs.DraftSteps.{Opening, row_linked, sound_begun, carries_open, sound_linked}
@@ -68,6 +68,28 @@ drafted c = record { looks = c.draft.inside.looks; links = c.draft.inside.links 
 sound_before : (c : After-add_rest) → SoundDraft c.args.lr0.now (drafted c)
 sound_before c = subst (SoundDraft c.args.lr0.now) (sym c.draft.view_is) c.requires.sound
 
+-- it is sound with the looks that the form adds
+sound_after : (c : After-add_rest) → SoundDraft c.args.lr0.now
+    (record { looks = c.add_rest.new.looks; links = (drafted c).links })
+sound_after c =
+    let P = c.args.lr0.now in
+    let f = c.requires.fit.well_formed in
+    let sd = sound_before c in
+    let a = c.add_rest.ensures in
+    sound_rows P (drafted c) c.add_rest.new.looks sd (sized_then sd.sized a.sized)
+    (sound_begun P f c.requires.fit (drafted c) c.add_rest.new.looks c.args.here c.in-Some-get.to
+    (form_of P c.args.here.item) sd.looks c.requires.here (opening c) a.sound)
+
+further_by : (c : After-add_rest) (n : DraftValue) → Further (drafted c) n →
+    Further c.args.draft.now n
+further_by c n w = subst (λ (v : DraftValue). Further v n) c.draft.view_is w
+
+opens_with : (c : After-add_rest) (n : DraftValue) → GivesForm c.args.lr0.now n
+    (form_of c.args.lr0.now c.args.here.item) c.args.here.row c.in-Some-get.to →
+    OpensAt c.args.lr0.now n c.args.here.state c.args.here.item c.args.here.row
+opens_with c n gives = opens_by c.args.lr0.now c.requires.fit.well_formed c.requires.fit n
+    c.args.here c.in-Some-get.to (form_of c.args.lr0.now c.args.here.item) (opening c) gives
+
 pub returns-in_ok-push : goal.returns-in_ok-push
 returns-in_ok-push c =
     let at = (goal.at.returns-in_ok-push c).After-add_rest in
@@ -75,27 +97,24 @@ returns-in_ok-push c =
     let f = c.requires.fit.well_formed in
     let fit = c.requires.fit in
     let h = c.args.here in
-    let here = c.requires.here in
     let d = drafted at in
-    let sd = sound_before at in
     let n : DraftValue = record { looks = c.add_rest.new.looks; links = c.push.new.self } in
     let to = c.in-Some-get.to in
-    let y = form_of P h.item in
     let u = opening at in
-    let a = c.add_rest.ensures in
-    let hl = row_linked P f fit d sd h here in
+    let r = sound_after at in
+    let hl = row_linked P f fit d (sound_before at) h c.requires.here in
     record {
-      sound = sound_linked P d n.looks n.links h.row to sd (sized_then sd.sized a.sized)
-          (sound_begun P f fit d n.looks h to y sd.looks here u a.sound)
-          (row_below P f fit h.state h.item h.row here)
+      sound = sound_linked P (record { looks = n.looks; links = d.links }) n.looks n.links h.row to
+          r r.sized r.looks (row_below P f fit h.state h.item h.row c.requires.here)
           (row_below P f fit h.state u.opened to u.place) c.in_ok-push.ensures
-          (carries_open P f fit h to y here u (c.if-add_rest.ensures.vanishes.0 refl));
-      further = subst (λ (v : DraftValue). Further v n) c.draft.view_is (record {
-        looks = a.grows;
+          (carries_open P f fit h to (form_of P h.item) c.requires.here u
+          (c.if-add_rest.ensures.vanishes.0 refl));
+      further = further_by at n (record {
+        looks = c.add_rest.ensures.grows;
         links = link_kept d.links n.links h.row to hl c.in_ok-push.ensures;
       });
-      opens = opens_by P f fit n h to y u (record {
-        begun = a.every;
+      opens = opens_with at n (record {
+        begun = c.add_rest.ensures.every;
         linked =
             λ _. link_there d.links n.links h.row to hl c.in_ok-push.ensures;
       });
@@ -104,25 +123,13 @@ returns-in_ok-push c =
 pub returns-else-add_rest : goal.returns-else-add_rest
 returns-else-add_rest c =
     let at = (goal.at.returns-else-add_rest c).After-add_rest in
-    let P = c.args.lr0.now in
-    let f = c.requires.fit.well_formed in
-    let fit = c.requires.fit in
-    let h = c.args.here in
-    let d = drafted at in
-    let sd = sound_before at in
-    let n : DraftValue = record { looks = c.add_rest.new.looks; links = d.links } in
-    let to = c.in-Some-get.to in
-    let y = form_of P h.item in
-    let a = c.add_rest.ensures in
+    let n : DraftValue = record { looks = c.add_rest.new.looks; links = (drafted at).links } in
     record {
-      sound = sound_rows P d n.looks sd (sized_then sd.sized a.sized)
-          (sound_begun P f fit d n.looks h to y sd.looks c.requires.here (opening at) a.sound);
-      further = subst (λ (v : DraftValue). Further v n) c.draft.view_is (record {
-        looks = a.grows;
-        links = λ p t l. l;
-      });
-      opens = opens_by P f fit n h to y (opening at) (record {
-        begun = a.every;
+      sound = sound_after at;
+      further = further_by at n
+          (record { looks = c.add_rest.ensures.grows; links = λ p t l. l });
+      opens = opens_with at n (record {
+        begun = c.add_rest.ensures.every;
         linked =
             λ all. absurd (let x = c.if-add_rest.ensures.vanishes.1 all in cc);
       });

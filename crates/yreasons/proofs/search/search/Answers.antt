@@ -47,7 +47,6 @@ pub loop-index-preserved : goal.loop-index-preserved
 loop-index-preserved c =
     let m = c.args.automaton.now in
     let a = c.args.token in
-    let old = c.args.trail.now in
     let now = c.loop-index.trail in
     let new = c.visit.new.trail in
     let idx = c.loop-index.index in
@@ -60,7 +59,7 @@ loop-index-preserved c =
     c.in_default.is e.found in
     record {
       trail = e.trail;
-      extends = extends_then old now new inv.extends e.extends;
+      extends = extends_then c.args.trail.now now new inv.extends e.extends;
       within = omega (arith, h, size);
       visited = λ k l. elim (last_or_before k idx l) as (λ z. IsVisited m a new (entry_at new k).place) [
         | inl b ↦ visited_kept now new e.extends m a k (omega (arith, b, h)) (inv.visited k b)

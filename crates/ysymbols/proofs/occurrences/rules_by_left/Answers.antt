@@ -1,16 +1,11 @@
 use Rattle.std.proofs.Common.{◌≡◌, ◌∙◌, ◌∷◌, [], ℕ, ap, length, subst, arith}
-use Rattle.std.proofs.lemmas.List.{length-map}
-use Rattle.ysymbols.specs.Marking.{AreByLeft, items_of, lists_of}
-use Rattle.ysymbols.proofs.FilingSteps.{filed_alone, listed_more, listed_none}
+use Rattle.ysymbols.specs.Marking.{AreByLeft, lists_of}
+use Rattle.ysymbols.proofs.FilingSteps.{filed_alone, listed_more, started}
 use Rattle.ysymbols.proofs.occurrences.rules_by_left.Goals as goal
 
 pub loop-r-init : goal.loop-r-init
-loop-r-init c = record {
-  sized = c.in_ok-lists.ensures.sized;
-  filed = listed_none c.args.rules.now c.args.symbols (lists_of c.in_ok-lists.lists)
-      (length-map c.in_ok-lists.lists.items items_of ∙ c.in_ok-lists.ensures.sized)
-      c.in_ok-lists.ensures.empty;
-}
+loop-r-init c = started c.args.rules.now c.args.symbols c.in_ok-lists.lists
+    c.in_ok-lists.ensures.sized c.in_ok-lists.ensures.empty
 
 pub loop-r-preserved : goal.loop-r-preserved
 loop-r-preserved c = record {

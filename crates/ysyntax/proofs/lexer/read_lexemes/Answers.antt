@@ -1,6 +1,8 @@
-use Rattle.std.proofs.Common.{refl, sym, ap, ◌∙◌, ◌-◌, length}
+use Rattle.std.proofs.Common.{ℕ, List, refl, sym, ap, ◌∙◌, ◌-◌, length}
 use Rattle.ylexemes.specs.Front.{blank, comment}
 use Rattle.ylexemes.specs.Views.{lexeme_view}
+use Rattle.ylexemes.specs.declared.part.Lexeme.{Lexeme}
+use Rattle.ysyntax.specs.declared.lexer.Placed.{Placed}
 use Rattle.ysyntax.specs.Recogniser.{next_state}
 use Rattle.std.proofs.Common.{Some, None}
 use Rattle.ysyntax.proofs.Coming.{after_shorter, stops_in}
@@ -8,6 +10,11 @@ use Rattle.ysyntax.proofs.Coming.{comes_shorter, empty_is, goes_gap, goes_lexeme
 use Rattle.ysyntax.proofs.Coming.{stops_early, stops_ended, placed_more, sites_more, stops_lexical}
 use Rattle.ysyntax.proofs.Coming.{stops_marked, stops_stray}
 use Rattle.ysyntax.proofs.lexer.read_lexemes.Goals as goal
+
+-- a lexeme with its places, where the one text begins with it and the other follows it
+abbrev placed : List ℕ → List ℕ → List ℕ → Lexeme → Placed
+placed bytes from rest l =
+    record { lexeme = l; at = length bytes - length from; end = length bytes - length rest }
 
 pub stopped-requires : goal.stopped-requires
 stopped-requires c = place c.args.bytes.now c.parts.rest.now c.parts.lexemes.items c.parts.state
@@ -47,11 +54,8 @@ returns-then-is_end-clause-outcome c =
     let part = rw c.in-Lexeme.is at c.in-Ok.ensures in
     stops_marked c.args.bytes.now c.parts.rest.now c.in-Ok.found.1.now c.parts.lexemes.items
     c.push.new.self.items c.parts.state c.in-Some.next
-    (record {
-      lexeme = c.in-Lexeme.lexeme;
-      at = length c.args.bytes.now - length c.parts.rest.now;
-      end = length c.args.bytes.now - length c.in-Ok.found.1.now;
-    }) c.parts.invariant part
+    (placed c.args.bytes.now c.parts.rest.now c.in-Ok.found.1.now c.in-Lexeme.lexeme)
+    c.parts.invariant part
     (ap (next_state c.parts.state) (sym c.kind.ensures) ∙ sym c.in-Some.ensures)
     (sym c.is_end.ensures ∙ c.if-is_end.true) c.in_ok-push-in-Lexeme.ensures.items
 
@@ -72,11 +76,8 @@ parts-preserved c =
     let part = rw c.in-Lexeme.is at c.in-Ok.ensures in
     goes_lexeme c.args.bytes.now c.parts.rest.now c.in-Ok.found.1.now c.parts.lexemes.items
     c.push.new.self.items c.parts.state c.in-Some.next
-    (record {
-      lexeme = c.in-Lexeme.lexeme;
-      at = length c.args.bytes.now - length c.parts.rest.now;
-      end = length c.args.bytes.now - length c.in-Ok.found.1.now;
-    }) c.parts.invariant part refl refl
+    (placed c.args.bytes.now c.parts.rest.now c.in-Ok.found.1.now c.in-Lexeme.lexeme)
+    c.parts.invariant part refl refl
     (ap (next_state c.parts.state) (sym c.kind.ensures) ∙ sym c.in-Some.ensures)
     (sym c.is_end.ensures ∙ c.if-is_end.false) c.in_ok-push-in-Lexeme.ensures.items
 
@@ -101,25 +102,17 @@ returns-clause-outcome c =
 
 pub returns-then-is_end-clause-placed : goal.returns-then-is_end-clause-placed
 returns-then-is_end-clause-placed c =
-    let part = rw c.in-Lexeme.is at c.in-Ok.ensures in
-    placed_more c.args.bytes.now c.parts.rest.now c.in-Ok.found.1.now c.parts.lexemes.items
-    c.push.new.self.items c.parts.state
-    (record {
-      lexeme = c.in-Lexeme.lexeme;
-      at = length c.args.bytes.now - length c.parts.rest.now;
-      end = length c.args.bytes.now - length c.in-Ok.found.1.now;
-    }) c.parts.invariant part refl refl c.in_ok-push-in-Lexeme.ensures.items
+    placed_more _ _ _ _ _ _
+    (placed c.args.bytes.now c.parts.rest.now c.in-Ok.found.1.now c.in-Lexeme.lexeme)
+    c.parts.invariant (rw c.in-Lexeme.is at c.in-Ok.ensures) refl refl
+    c.in_ok-push-in-Lexeme.ensures.items
 
 pub returns-then-is_end-clause-sites : goal.returns-then-is_end-clause-sites
 returns-then-is_end-clause-sites c =
-    let part = rw c.in-Lexeme.is at c.in-Ok.ensures in
-    sites_more c.args.bytes.now c.parts.rest.now c.in-Ok.found.1.now c.parts.lexemes.items
-    c.push.new.self.items c.parts.state
-    (record {
-      lexeme = c.in-Lexeme.lexeme;
-      at = length c.args.bytes.now - length c.parts.rest.now;
-      end = length c.args.bytes.now - length c.in-Ok.found.1.now;
-    }) c.parts.invariant part refl c.in_ok-push-in-Lexeme.ensures.items
+    sites_more _ _ _ _ _ _
+    (placed c.args.bytes.now c.parts.rest.now c.in-Ok.found.1.now c.in-Lexeme.lexeme)
+    c.parts.invariant (rw c.in-Lexeme.is at c.in-Ok.ensures) refl
+    c.in_ok-push-in-Lexeme.ensures.items
 
 pub returns-in-Err-clause-state : goal.returns-in-Err-clause-state
 returns-in-Err-clause-state c =

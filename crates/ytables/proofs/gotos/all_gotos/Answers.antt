@@ -1,9 +1,7 @@
-use Rattle.std.proofs.Common.{ℕ, ◌≡◌, ◌<◌, ◌+◌, List, length, get_or, Option, None, ap, ◌∙◌, subst}
+use Rattle.std.proofs.Common.{ℕ, ◌≡◌, ◌<◌, ◌+◌, length, get_or, None, ap, ◌∙◌}
 use Rattle.std.proofs.Common.{arith}
-use Rattle.ysymbols.specs.Grammar.{GrammarValue}
 use Rattle.ylalr.specs.Collection.{goto_in}
-use Rattle.yrows.specs.Packed.{IsPushed}
-use Rattle.ytables.proofs.GotoSteps.{gotos_step}
+use Rattle.ytables.proofs.GotoSteps.{gotos_step, tokens_by}
 use Rattle.ytables.proofs.gotos.all_gotos.Goals as goal
 
 pub loop-q-preserved : goal.loop-q-preserved
@@ -12,11 +10,8 @@ loop-q-preserved c =
     let q = c.loop-q.q in
     let inv = c.loop-q.invariant in
     let row = c.in_ok-row.row.items in
-    let tokens : c.token_count-tokens.result ≡ m.grammar.bare.tokens = c.token_count-tokens.ensures
-    ∙ ap (λ (v : GrammarValue). v.bare.tokens) c.grammar-grammar.ensures in
-    let pushed : IsPushed c.loop-q.gotos c.push.new.self row =
-    subst (λ (l : List (Option ℕ)). IsPushed c.loop-q.gotos c.push.new.self l)
-    c.deref.ensures.value c.in_ok-push.ensures in
+    let tokens = tokens_by c.token_count-tokens.ensures c.grammar-grammar.ensures in
+    let pushed = rw c.deref.ensures.value at c.in_ok-push.ensures in
     let wide = inv.width in
     let len = c.in_ok-row.ensures.len in
     let here : (x : ℕ) → x < length row → get_or row x None ≡ goto_in m q

@@ -40,18 +40,12 @@ bounds c =
 pub overflow_add-shift_reduce : goal.overflow_add-shift_reduce
 overflow_add-shift_reduce c =
     let b = bounds (goal.at.overflow_add-shift_reduce c).After-settled-cell in
-    let x = b.0 in
-    let t = b.2 in
-    let i = c.loop-t.invariant.shift_reduce in
-    omega (arith, x, t, i)
+    omega (arith, b.0, b.2, c.loop-t.invariant.shift_reduce)
 
 pub overflow_add-reduce_reduce : goal.overflow_add-reduce_reduce
 overflow_add-reduce_reduce c =
     let b = bounds (goal.at.overflow_add-reduce_reduce c).After-settled-cell in
-    let x = b.1 in
-    let t = b.2 in
-    let i = c.loop-t.invariant.reduce_reduce in
-    omega (arith, x, t, i)
+    omega (arith, b.1, b.2, c.loop-t.invariant.reduce_reduce)
 
 pub loop-t-preserved : goal.loop-t-preserved
 loop-t-preserved c =

@@ -1,10 +1,9 @@
-use Rattle.std.proofs.Common.{ℕ, ◌≡◌, ◌<◌, ◌+◌, [], ◌∷◌, List, length, get_or, Option, None, ap}
-use Rattle.std.proofs.Common.{◌∙◌, subst, arith, unwrap_or, length-append}
-use Rattle.ysymbols.specs.Grammar.{GrammarValue}
+use Rattle.std.proofs.Common.{ℕ, ◌≡◌, ◌<◌, ◌+◌, [], ◌∷◌, List, length, get_or, None, ap}
+use Rattle.std.proofs.Common.{◌∙◌, arith, unwrap_or, length-append}
 use Rattle.ytables.specs.declared.cell.Action.{Action}
 use Rattle.ytables.specs.declared.cell.Action.TheVariants.{Error}
 use Rattle.ytables.specs.Cell.{by_default}
-use Rattle.yrows.specs.Packed.{IsPushed}
+use Rattle.ytables.proofs.GotoSteps.{tokens_by}
 use Rattle.ytables.proofs.TableSteps.{rows_step, sums_step, conflicts_step}
 use Rattle.ytables.proofs.tables.all_rows.Goals as goal
 
@@ -15,11 +14,8 @@ loop-q-preserved c =
     let inv = c.loop-q.invariant in
     let row = c.in_ok-row.row in
     let entries = c.in_ok-entries.entries.items in
-    let tokens : c.token_count-tokens.result ≡ m.grammar.bare.tokens = c.token_count-tokens.ensures
-    ∙ ap (λ (v : GrammarValue). v.bare.tokens) c.grammar-grammar.ensures in
-    let pushed : IsPushed c.loop-q.actions c.push.new.self entries =
-    subst (λ (l : List (Option Action)). IsPushed c.loop-q.actions c.push.new.self l)
-    c.deref-in-loop-q.ensures.value c.in_ok-push.ensures in
+    let tokens = tokens_by c.token_count-tokens.ensures c.grammar-grammar.ensures in
+    let pushed = rw c.deref-in-loop-q.ensures.value at c.in_ok-push.ensures in
     let longer = c.in_ok-push-2.ensures.items in
     let listed = c.in_ok-push-3.ensures.items in
     let same : (t : ℕ) → t < m.grammar.bare.tokens → by_default row.default

@@ -1,9 +1,9 @@
 use Rattle.std.proofs.Common.{IfErr, refl}
-use Rattle.youtline.specs.declared.mistake.Mistake.TheVariants as mistakes
+use Rattle.ydeclarations.specs.declared.mistake.Mistake.TheVariants as mistakes
 use Rattle.ygrammar.specs.Elaborated.{IsFirstRefused}
 use Rattle.ysyntax.specs.TreeViews.{tree_view}
 use Rattle.std.proofs.Common.{◌++◌}
-use Rattle.youtline.specs.OutlineSites.{IsPlaced}
+use Rattle.ydeclarations.specs.OutlineSites.{IsPlaced}
 use Rattle.ygrammar.proofs.PlaceSteps.{passes_place}
 use Rattle.ygrammar.proofs.ElaborationSteps.{refuses}
 use Rattle.ygrammar.proofs.elaboration.Named.fill.Goals as goal

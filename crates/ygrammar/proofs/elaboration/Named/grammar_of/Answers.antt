@@ -1,7 +1,7 @@
 use Rattle.std.proofs.Common.{◌≡◌, ◌≤◌, ◌∙◌, ap, sym, subst, length, List, Option, ℕ}
 use Rattle.std.proofs.Common.{rules}
 use Rattle.ygrammar.specs.declared.holders.Holders.{Holders}
-use Rattle.youtline.specs.Elaboration.{symbols}
+use Rattle.ydeclarations.specs.Elaboration.{symbols}
 use Rattle.ysymbols.specs.Grammar.{GrammarValue, RuleValue, number_bound}
 use Rattle.ysymbols.specs.Marking.{AreIn}
 use Rattle.ygrammar.specs.Meaning.{IsMeaning}

@@ -2,7 +2,23 @@ use Rattle.std.proofs.Common.{◌≡◌, ◌<◌, ◌+◌, List, length, Option,
 use Rattle.std.proofs.lemmas.List.{get_or_read}
 use Rattle.yrows.specs.Packed.{PackedRows, entry_of, held_at}
 use Rattle.yrows.proofs.PackedSteps.{entry_is, entry_past, rows_count}
+use Rattle.yrows.proofs.packed.Packed.get.Given.{Over}
+use Rattle.yrows.proofs.packed.Packed.get.Goals.{After-index}
 use Rattle.yrows.proofs.packed.Packed.get.Goals as goal
+
+-- the number of the row is that of a displacement
+within : (g : Over) (c : After-index g) → c.args.q < length c.self.inside.displacements.items
+within g c =
+    let I = c.self.inside in
+    let count = rows_count I.cells.items I.owners.items I.displacements.items I.width in
+    let seen = ap (λ (p : PackedRows g.row.T.Denot). length p.rows) c.self.view_is in
+    omega (arith, count, seen, c.requires)
+
+-- where the row begins
+begins : (g : Over) (c : After-index g) →
+    c.index.result.now ≡ slice_index c.self.inside.displacements.items c.args.q
+begins g c = get_or_read c.self.inside.displacements.items c.args.q c.index.result.now
+    (within g c) c.index.ensures 0
 
 pub returns-then-self-t : goal.returns-then-self-t
 returns-then-self-t g c =
@@ -25,14 +41,9 @@ index-requires g c =
 
 pub overflow_add-index : goal.overflow_add-index
 overflow_add-index g c =
-    let T = g.row.T.Denot in
-    let I = c.self.inside in
-    let count = rows_count I.cells.items I.owners.items I.displacements.items I.width in
-    let seen = ap (λ (p : PackedRows T). length p.rows) c.self.view_is in
-    let q : c.args.q < length I.displacements.items = omega (arith, count, seen, c.requires) in
-    let at : c.index.result.now ≡ slice_index I.displacements.items c.args.q =
-    get_or_read I.displacements.items c.args.q c.index.result.now q c.index.ensures 0 in
-    let near = c.self.invariant.near c.args.q q in
+    let here = (goal.at.overflow_add-index g c).After-index in
+    let at = begins g here in
+    let near = c.self.invariant.near c.args.q (within g here) in
     let narrow = c.self.invariant.narrow in
     omega (arith, at, near, narrow, c.if-self-t.false)
 
@@ -54,19 +65,14 @@ held-requires-clause-small g c =
 
 pub returns : goal.returns
 returns g c =
+    let here = (goal.at.returns g c).After-index in
     let T = g.row.T.Denot in
     let I = c.self.inside in
-    let count = rows_count I.cells.items I.owners.items I.displacements.items I.width in
-    let seen = ap (λ (p : PackedRows T). length p.rows) c.self.view_is in
-    let q : c.args.q < length I.displacements.items = omega (arith, count, seen, c.requires) in
-    let at : c.index.result.now ≡ slice_index I.displacements.items c.args.q =
-    get_or_read I.displacements.items c.args.q c.index.result.now q c.index.ensures 0 in
-    let k = slice_index I.displacements.items c.args.q + c.args.t in
     c.held.ensures ∙ ap (λ (cells : List (Option T)). held_at cells c.deref-2.result.now c.args.q
     (c.index.result.now + c.args.t)) c.deref.ensures.value
     ∙ ap (λ owners. held_at I.cells.items owners c.args.q (c.index.result.now + c.args.t))
     c.deref-2.ensures.value ∙ ap (λ n. held_at I.cells.items I.owners.items c.args.q
-    (n + c.args.t)) at
-    ∙ sym (entry_is I.cells.items I.owners.items I.displacements.items I.width c.args.q c.args.t q
-    c.if-self-t.false) ∙ ap (λ (p : PackedRows T). entry_of p.rows c.args.q c.args.t)
-    c.self.view_is
+    (n + c.args.t)) (begins g here)
+    ∙ sym (entry_is I.cells.items I.owners.items I.displacements.items I.width c.args.q c.args.t
+    (within g here) c.if-self-t.false) ∙ ap (λ (p : PackedRows T). entry_of p.rows c.args.q
+    c.args.t) c.self.view_is

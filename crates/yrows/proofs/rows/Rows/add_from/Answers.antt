@@ -1,19 +1,19 @@
 use Rattle.std.proofs.Common.{◌≡◌, ◌<◌, ◌+◌, ◌*◌, ◌%◌, ◌∙◌, ◌↔◌, ap, get_or, subst, sym, arith}
 use Rattle.std.proofs.lemmas.List.{get_or_read}
-use Rattle.yrows.specs.Rows.{BitRows, IsBitRows, Holds, unite}
+use Rattle.yrows.specs.Rows.{BitRows, IsBitRows, Holds}
 use Rattle.yrows.proofs.RowLemmas.{BitIs, word_bits, adds_whole, word_within, shared_span}
+use Rattle.yrows.proofs.RowLemmas.{row_united, within_span}
 use Rattle.yrows.proofs.RowLemmas.{uniting_more, uniting_end}
 use Rattle.yrows.proofs.rows.Rows.add_from.Goals as goal
 
 pub loop-k-preserved : goal.loop-k-preserved
 loop-k-preserved c =
-    let m = c.args.self.now in
     let n = c.loop-k.self in
     let k = c.loop-k.k in
     let i = c.loop-k.invariant in
     let x = c.index-more.result.now in
-    let ks : k < n.span = subst (λ t. k < t) (ap (λ (v : BitRows). v.span) c.self.view_is ∙
-    sym i.span) c.loop-k-test.true in
+    let ks : k < n.span = within_span _ c.args.self.now n k c.loop-k-test.true
+    c.self.view_is i.span in
     let o = c.args.other.now in
     let fo : IsBitRows o = subst IsBitRows c.other.view_is c.other.invariant in
     let so : n.span ≡ o.span = shared_span n o i.fits fo (i.columns ∙ sym c.requires.same) in
@@ -25,12 +25,10 @@ loop-k-preserved c =
     (word_within o fo c.args.from k c.requires.from_in (subst (λ t. k < t) so ks))
     (subst (λ (v : BitRows). x ≡ get_or v.words (c.args.from * o.span + k) x)
     c.other.view_is y) 0) in
-    let e : c.unite-grew.new.self ≡ unite n (c.args.to * n.span + k) x =
-    c.unite-grew.ensures.words ∙ ap (λ (v : BitRows). unite n (c.args.to * v.span + k) x)
-    c.self-in-loop-k.view_is in
-    uniting_more m n c.unite-grew.new.self c.args.to k x (Holds o c.args.from) c.loop-k.grew
-    c.unite-grew.result c.requires.to_in ks e c.unite-grew.ensures.fewer
-    c.unite-grew.ensures.fewer_if c.unite-grew.ensures.unchanged
+    uniting_more c.args.self.now n c.unite-grew.new.self c.args.to k x (Holds o c.args.from)
+    c.loop-k.grew c.unite-grew.result c.requires.to_in ks
+    (row_united _ n c.args.to k x c.unite-grew.ensures.words c.self-in-loop-k.view_is)
+    c.unite-grew.ensures.fewer c.unite-grew.ensures.fewer_if c.unite-grew.ensures.unchanged
     (λ z l q. subst (λ w. BitIs w (z % 64) ↔ Holds o c.args.from z) (sym at)
     (word_bits o c.args.from k z c.requires.from_in
     (subst (λ t. z < t) (sym c.requires.same) l) q)) i

@@ -1,34 +1,41 @@
 use Rattle.std.proofs.Common.{◌≡◌, ◌<◌, ◌+◌, ◌*◌, ◌%◌, ◌∙◌, ◌↔◌, ap, get_or, subst, refl, sym}
 use Rattle.std.proofs.Common.{arith}
 use Rattle.std.proofs.lemmas.List.{get_or_read}
-use Rattle.yrows.specs.Rows.{BitRows, IsBitRows, Holds, unite}
+use Rattle.yrows.specs.Rows.{BitRows, IsBitRows, Holds}
 use Rattle.yrows.proofs.RowLemmas.{BitIs, own_bits, adds_whole, word_within, uniting_more}
-use Rattle.yrows.proofs.RowLemmas.{uniting_end}
+use Rattle.yrows.proofs.RowLemmas.{row_united, uniting_end, within_span}
+use Rattle.yrows.proofs.rows.Rows.add_row.Goals.{After-index-more}
 use Rattle.yrows.proofs.rows.Rows.add_row.Goals as goal
+
+within : (c : After-index-more) → c.loop-k.k < c.loop-k.self.span
+within c = within_span _ c.args.self.now c.loop-k.self c.loop-k.k c.loop-k-test.true
+    c.self.view_is c.loop-k.invariant.span
+
+-- the word that was read is one of the rows so far
+read : (c : After-index-more) → c.index-more.result.now
+    ≡ get_or c.loop-k.self.words (c.args.from * c.loop-k.self.span + c.loop-k.k) 0
+read c =
+    let n = c.loop-k.self in
+    let i = c.loop-k.invariant in
+    get_or_read n.words (c.args.from * n.span + c.loop-k.k) c.index-more.result.now
+    (word_within n i.fits c.args.from c.loop-k.k (subst (λ t. c.args.from < t) (sym i.rows)
+    c.requires.from_in) (within c)) (subst (λ (v : BitRows).
+    c.index-more.result.now ≡ get_or v.words (c.args.from * v.span + c.loop-k.k)
+    c.index-more.result.now) c.self-in-loop-k.view_is c.index-more.ensures) 0
 
 pub loop-k-preserved : goal.loop-k-preserved
 loop-k-preserved c =
+    let here = (goal.at.loop-k-preserved c).After-index-more in
     let m = c.args.self.now in
-    let n = c.loop-k.self in
-    let k = c.loop-k.k in
     let i = c.loop-k.invariant in
-    let x = c.index-more.result.now in
-    let ks : k < n.span = subst (λ t. k < t) (ap (λ (v : BitRows). v.span) c.self.view_is ∙
-    sym i.span) c.loop-k-test.true in
-    let at : x ≡ get_or n.words (c.args.from * n.span + k) 0 =
-    get_or_read n.words (c.args.from * n.span + k) x
-    (word_within n i.fits c.args.from k (subst (λ t. c.args.from < t) (sym i.rows)
-    c.requires.from_in) ks) (subst (λ (v : BitRows).
-    x ≡ get_or v.words (c.args.from * v.span + k) x) c.self-in-loop-k.view_is
-    c.index-more.ensures) 0 in
-    let e : c.unite-grew.new.self ≡ unite n (c.args.to * n.span + k) x =
-    c.unite-grew.ensures.words ∙ ap (λ (v : BitRows). unite n (c.args.to * v.span + k) x)
-    c.self-in-loop-k.view_is in
-    uniting_more m n c.unite-grew.new.self c.args.to k x (Holds m c.args.from) c.loop-k.grew
-    c.unite-grew.result c.requires.to_in ks e c.unite-grew.ensures.fewer
+    uniting_more m c.loop-k.self c.unite-grew.new.self c.args.to c.loop-k.k c.index-more.result.now
+    (Holds m c.args.from) c.loop-k.grew c.unite-grew.result c.requires.to_in (within here)
+    (row_united _ c.loop-k.self c.args.to c.loop-k.k c.index-more.result.now
+    c.unite-grew.ensures.words c.self-in-loop-k.view_is) c.unite-grew.ensures.fewer
     c.unite-grew.ensures.fewer_if c.unite-grew.ensures.unchanged
-    (λ z l q. subst (λ w. BitIs w (z % 64) ↔ Holds m c.args.from z) (sym at)
-    (own_bits m n c.args.to c.args.from k z i.rows i.columns c.requires.from_in i.adds l q)) i
+    (λ z l q. subst (λ w. BitIs w (z % 64) ↔ Holds m c.args.from z) (sym (read here))
+    (own_bits m c.loop-k.self c.args.to c.args.from c.loop-k.k z i.rows i.columns
+    c.requires.from_in i.adds l q)) i
 
 pub returns-clause-adds : goal.returns-clause-adds
 returns-clause-adds c =

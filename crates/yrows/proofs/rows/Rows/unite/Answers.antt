@@ -4,33 +4,31 @@ use Rattle.std.proofs.lemmas.Grind.{common_steps}
 use Rattle.std.proofs.lemmas.List.{get_or_read}
 use Rattle.std.proofs.lemmas.Nat.{or_lt}
 use Rattle.yrows.specs.Rows.{BitRows, room}
-use Rattle.yrows.proofs.RowLemmas.{room_le, room_lt, worded}
+use Rattle.yrows.proofs.RowLemmas.{room_le, room_lt, word_united}
+use Rattle.yrows.proofs.rows.Rows.unite.Goals.{After-index-before}
 use Rattle.yrows.proofs.rows.Rows.unite.Goals as goal
+
+-- the word that was read
+before : (c : After-index-before) →
+    c.index-before.result.now ≡ get_or c.args.self.now.words c.args.at 0
+before c =
+    let h : c.args.at < length c.self.inside.words.items =
+    subst (λ (v : BitRows). c.args.at < length v.words) (sym c.self.view_is) c.requires in
+    get_or_read c.self.inside.words.items c.args.at c.index-before.result.now h
+    c.index-before.ensures 0 ∙ ap (λ (v : BitRows). get_or v.words c.args.at 0) c.self.view_is
 
 pub returns-clause-fewer : goal.returns-clause-fewer
 returns-clause-fewer c =
     let m = c.args.self.now in
-    let h : c.args.at < length c.self.inside.words.items =
-    subst (λ (v : BitRows). c.args.at < length v.words) (sym c.self.view_is) c.requires in
-    let b : c.index-before.result.now ≡ get_or m.words c.args.at 0 =
-    get_or_read c.self.inside.words.items c.args.at c.index-before.result.now h
-    c.index-before.ensures 0 ∙ ap (λ (v : BitRows). get_or v.words c.args.at 0)
-    c.self.view_is in
-    let e = ap (λ (v : BitRows). worded v c.args.at (bit_or c.index-before.result.now c.args.more))
-    c.self.view_is ∙ ap (λ w. worded m c.args.at (bit_or w c.args.more)) b in
+    let b = before (goal.at.returns-clause-fewer c).After-index-before in
+    let e = word_united _ m c.args.at c.args.more _ c.self.view_is b in
     subst (λ (n : BitRows). room n ≤ room m) (sym e) (room_le m c.args.at c.args.more c.requires)
 
 pub returns-clause-fewer_if : goal.returns-clause-fewer_if
 returns-clause-fewer_if c = λ t.
     let m = c.args.self.now in
-    let h : c.args.at < length c.self.inside.words.items =
-    subst (λ (v : BitRows). c.args.at < length v.words) (sym c.self.view_is) c.requires in
-    let b : c.index-before.result.now ≡ get_or m.words c.args.at 0 =
-    get_or_read c.self.inside.words.items c.args.at c.index-before.result.now h
-    c.index-before.ensures 0 ∙ ap (λ (v : BitRows). get_or v.words c.args.at 0)
-    c.self.view_is in
-    let e = ap (λ (v : BitRows). worded v c.args.at (bit_or c.index-before.result.now c.args.more))
-    c.self.view_is ∙ ap (λ w. worded m c.args.at (bit_or w c.args.more)) b in
+    let b = before (goal.at.returns-clause-fewer_if c).After-index-before in
+    let e = word_united _ m c.args.at c.args.more _ c.self.view_is b in
     let n : bit_or c.index-before.result.now c.args.more ≢ c.index-before.result.now =
     grind (arith, common_steps) in
     let n' : bit_or (get_or m.words c.args.at 0) c.args.more ≢ get_or m.words c.args.at 0 =

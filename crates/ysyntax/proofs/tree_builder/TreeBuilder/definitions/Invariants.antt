@@ -3,9 +3,10 @@ use Rattle.std.specs.List.{flat_map, AllByRecursion}
 use Rattle.ysyntax.specs.declared.recogniser.State.TheVariants.{Declarations}
 use Rattle.ysyntax.specs.Answers.{views}
 use Rattle.ysyntax.specs.TreeBuilder.{GoesOn}
-use Rattle.ysyntax.specs.SiteViews.{definition_sites, named_in, site_marks}
+use Rattle.ysyntax.specs.SiteViews.{definition_sites}
 use Rattle.ysyntax.specs.Tree.{IsDefinition, definition_yield}
 use Rattle.ysyntax.specs.TreeViews.{definition_view}
+use Rattle.ysyntax.proofs.SoFar.{SitesSoFar}
 use Rattle.ysyntax.proofs.tree_builder.TreeBuilder.definitions.Given as goal
 
 abbrev pub invariant-lines : goal.invariant-lines
@@ -13,8 +14,7 @@ invariant-lines l = record {
   whole : views l.fn.self ≡ flat_map definition_yield (map definition_view l.definitions.items) ++
       views l.self;
   shaped : AllByRecursion IsDefinition (map definition_view l.definitions.items);
-  sites : named_in l.fn.self ≡ site_marks (flat_map definition_sites l.definitions.items)
-      ++ named_in l.self;
+  sites : SitesSoFar definition_sites l.definitions.items l.fn.self l.self;
   goes_on : GoesOn Declarations l.self;
 }
 

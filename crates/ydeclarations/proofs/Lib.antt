@@ -1,0 +1,9 @@
+pub mod TellingSteps
+pub mod OwnSteps
+pub mod TokenSteps
+pub mod GivenTables
+pub mod Gathering
+pub mod SiteSteps
+pub mod PlaceSteps
+pub mod SecondSteps
+pub mod WrongSteps
