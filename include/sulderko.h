@@ -3,9 +3,10 @@
    describes it.
 
    Each call reads the texts that it is given, by a pointer and a length in bytes, and writes into
-   memory of its caller. It keeps nothing, takes memory by malloc and gives all of it back; threads
-   may call at once. A pointer may be null where its length is 0. Every other pointer is to a thing
-   that is there, and what is written overlaps nothing that is read.
+   memory of its caller. It takes memory by malloc, and but for the session of a handle it keeps
+   nothing and gives all of it back; threads may call at once, each on handles of its own. A pointer
+   may be null where its length is 0. Every other pointer is to a thing that is there, and what is
+   written overlaps nothing that is read.
 
    A grammar is a grammar file's text, tokens are names and literals with blanks between them, and
    commands are lines of ystep: docs/FORMATS.md says what each of them has.
@@ -26,11 +27,19 @@ extern "C" {
 
 /* What a call answers. */
 enum sulderko_status {
-  SULDERKO_DONE = 0,         /* all was handed over */
-  SULDERKO_BAD_GRAMMAR = 1,  /* the grammar has a fault: sulderko_fault says which */
-  SULDERKO_BAD_TOKENS = 2,   /* the tokens have a fault: sulderko_fault says which */
-  SULDERKO_NO_MEMORY = 3,    /* memory ran out */
-  SULDERKO_TOO_MANY_SETS = 4 /* the grammar has more than 16,384 item sets */
+  SULDERKO_DONE = 0,          /* all was handed over */
+  SULDERKO_BAD_GRAMMAR = 1,   /* the grammar has a fault: sulderko_fault says which */
+  SULDERKO_BAD_TOKENS = 2,    /* the tokens have a fault: sulderko_fault says which */
+  SULDERKO_NO_MEMORY = 3,     /* memory ran out */
+  SULDERKO_TOO_MANY_SETS = 4, /* the grammar has more than 16,384 item sets */
+  SULDERKO_HALTED = 5,        /* the parse is accepted or has failed: no step and no edit */
+  SULDERKO_AT_LIMIT = 6,      /* the position is 1,000,000 */
+  SULDERKO_AT_START = 7,      /* nothing can be undone */
+  SULDERKO_NO_TOKEN = 8,      /* there is no upcoming token */
+  SULDERKO_BAD_TOKEN = 9,     /* what is to be inserted is no input token of the grammar */
+  SULDERKO_NOT_ACCEPTED = 10, /* what is to be unwound isn't accepted */
+  SULDERKO_HAD_ERROR = 11,    /* what is to be unwound has an error step */
+  SULDERKO_NO_SESSION = 12    /* the handle has no session */
 };
 
 /* How many conflicts the cells of a grammar's tables count. */
@@ -98,6 +107,56 @@ typedef struct sulderko_sizes {
   size_t span;   /* how many bytes of SULDERKO_BITS a set has */
 } sulderko_sizes;
 
+/* A handle: what owns a session that goes on from one call to the next. It begins as
+   SULDERKO_CLOSED, without a session. Whoever has it leaves `at` alone and makes no copy that is
+   used: two handles never have one session. It may go to another thread. A session takes memory
+   until its handle is closed. A handle that is neither SULDERKO_CLOSED nor as a call left it can't
+   be told from a good one. */
+typedef struct sulderko_handle {
+  void *at; /* null where there is no session */
+} sulderko_handle;
+
+#define SULDERKO_CLOSED {0}
+
+/* The kinds of moves. */
+enum sulderko_kind {
+  SULDERKO_SHIFT = 1,       /* the token `subject` went to the stack */
+  SULDERKO_REDUCE = 2,      /* the body of the rule `subject` was replaced by its left side */
+  SULDERKO_ACCEPT = 3,      /* the input was accepted */
+  SULDERKO_DETECT = 4,      /* an error was detected */
+  SULDERKO_POP = 5,         /* the symbol `subject` was dropped from the stack */
+  SULDERKO_SHIFT_ERROR = 6, /* error went to the stack */
+  SULDERKO_DISCARD = 7,     /* the token `subject` was dropped from the input */
+  SULDERKO_FAIL = 8,        /* the parse gave up */
+  SULDERKO_INSERT = 9,      /* the token `subject` was put before the upcoming tokens */
+  SULDERKO_DROP = 10        /* the token `subject`, the first upcoming one, was taken out */
+};
+
+/* A step or an edit that was made, or undone. */
+typedef struct sulderko_move {
+  unsigned int kind; /* one of sulderko_kind */
+  size_t subject;    /* the number of its symbol or rule, as the table has it; else 0 */
+} sulderko_move;
+
+/* The modes of a parse. */
+enum sulderko_mode {
+  SULDERKO_RUNNING = 1,      /* it does what the table says */
+  SULDERKO_POPPING = 2,      /* it looks for a state in which error can be shifted */
+  SULDERKO_HAS_ACCEPTED = 3, /* it has accepted its input */
+  SULDERKO_HAS_FAILED = 4    /* it has given up */
+};
+
+/* Where a session stands. */
+typedef struct sulderko_place {
+  unsigned int mode; /* one of sulderko_mode */
+  size_t position;   /* how many steps and edits stand, 0 to 1,000,000 */
+  size_t state;      /* the state on top of the stack, as the table numbers it */
+  size_t height;     /* how many symbols the stack has */
+  size_t left;       /* how many upcoming tokens there are */
+  size_t counter;    /* the recovery counter, 0 to 3 */
+  size_t errors;     /* how many errors were reported */
+} sulderko_place;
+
 /* What ystep replies to command lines, from the start of a parse of the tokens by the grammar. */
 unsigned int sulderko_session(const char *grammar, size_t grammar_len, const char *tokens,
                               size_t tokens_len, const char *commands, size_t commands_len,
@@ -131,6 +190,49 @@ unsigned int sulderko_judge(const char *grammar, size_t grammar_len, const char 
    many item sets. */
 unsigned int sulderko_fault(const char *grammar, size_t grammar_len, const char *tokens,
                             size_t tokens_len, sulderko_fault_info *fault);
+
+/* Gives a handle a session: the start of a parse of the tokens by the grammar. A session that the
+   handle had ends. With another status than SULDERKO_DONE the handle stays as it was. The texts
+   aren't needed any longer. */
+unsigned int sulderko_open(const char *grammar, size_t grammar_len, const char *tokens,
+                           size_t tokens_len, sulderko_handle *handle);
+
+/* Ends the session of a handle, where it has one, and gives its memory back. */
+void sulderko_close(sulderko_handle *handle);
+
+/* One step forward: *made becomes what it is. A refused one changes nothing, nor *made, as in the
+   three calls below: SULDERKO_HALTED, SULDERKO_AT_LIMIT, SULDERKO_NO_MEMORY. */
+unsigned int sulderko_step(sulderko_handle *handle, sulderko_move *made);
+
+/* One step or edit back, to the whole configuration before it: *made becomes what is undone. It
+   takes no memory. SULDERKO_AT_START where nothing stands. */
+unsigned int sulderko_back(sulderko_handle *handle, sulderko_move *made);
+
+/* Puts the token that these bytes spell, a name or a literal, before the upcoming tokens. Refused
+   as a step is, or SULDERKO_BAD_TOKEN. */
+unsigned int sulderko_insert(sulderko_handle *handle, const char *token, size_t token_len,
+                             sulderko_move *made);
+
+/* Takes out the first of the upcoming tokens. Refused as a step is, or SULDERKO_NO_TOKEN. */
+unsigned int sulderko_drop(sulderko_handle *handle, sulderko_move *made);
+
+/* Goes to a position: as many steps as it is above the one now, or as many undos as it is below.
+   With another status than SULDERKO_DONE a step was refused, and those before it stand. */
+unsigned int sulderko_to(sulderko_handle *handle, size_t position);
+
+/* Tells where the session stands. */
+unsigned int sulderko_state(sulderko_handle *handle, sulderko_place *place);
+
+/* The text of the configuration, as ystep replies to `show`. */
+unsigned int sulderko_show(sulderko_handle *handle, char *out, size_t room, size_t *len);
+
+/* The text of the trees of the stack, as ystep replies to `tree`. */
+unsigned int sulderko_tree(sulderko_handle *handle, char *out, size_t room, size_t *len);
+
+/* The forms of an accepted parse without error steps, the last one first, as ystep replies to
+   `unwind`; all steps and edits are undone then, whatever room there is. SULDERKO_NOT_ACCEPTED and
+   SULDERKO_HAD_ERROR change nothing; with SULDERKO_NO_MEMORY some are undone. */
+unsigned int sulderko_unwind(sulderko_handle *handle, char *out, size_t room, size_t *len);
 
 #ifdef __cplusplus
 }

@@ -6,7 +6,8 @@ Every scenario of `ystep` but those that ask for help comes back, byte for byte,
 C and one in Python over the library; streams that can't be read or written are left to C, since
 Python ends at them by itself. Each call gets every room up to more than it needs, null pointers
 without bytes, and things that it must refuse; each of its allocations is refused in turn; eight
-threads call at once. C runs as it is, with the sanitizers of the compiler (CC, or cc), and
+threads call at once. Parses behind handles are compared with sessions over grammars, tokens and
+command lines at random. C runs as it is, with the sanitizers of the compiler (CC, or cc), and
 with valgrind where that is there. The header is compiled as C89 and as C++, both libraries export
 the calls alone, and the examples of docs/LIBRARY.md answer what stands there. A wheel of the module is
 built and used, and the tests of the crate in Rust are run. FOLDER has libsulderko.a and
@@ -34,7 +35,8 @@ from checks.shared.tally import Tally, sum_of
 SOURCES, HEADERS, MODULE = DATA / "library", TOP / "include", TOP / "bindings/python"
 PAGE = TOP / "docs/LIBRARY.md"
 STATIC, SHARED = "libsulderko.a", "libsulderko.so.1"
-CALLS = {f"sulderko_{it}" for it in ("session", "table", "report", "code", "tokens", "judge", "fault")}
+CALLS = "session table report code tokens judge fault open close step back to insert drop"
+CALLS = {f"sulderko_{it}" for it in f"{CALLS} state show tree unwind".split()}
 STRICT = ["-std=c99", "-Wall", "-Wextra", "-Wpedantic", "-Wconversion", "-Werror"]
 CHECKED = ["-g", "-O1", "-fsanitize=address,undefined", "-fno-sanitize-recover=all"]
 WRAPPED = ["-Wl,--wrap=malloc", "-Wl,--wrap=realloc", "-Wl,--wrap=free"]
@@ -152,6 +154,7 @@ def compare_module(folder, tally):
     at = EXAMPLES / "statements"
     files = at / "grammar.y", at / "tokens", at / "session/stdin", at / "session/stdout"
     count("the module", python(folder, SOURCES / "module.py", *files), tally)
+    count("handles", python(folder, SOURCES / "handles.py", 1, 300), tally)
 
 
 def examples_of(text):

@@ -15,16 +15,25 @@ The library is the file that the variable SULDERKO_LIBRARY names; else libsulder
 module, where a wheel has it, or in the folder bin of the checkout that holds this module; else the
 one that the system finds.
 """
-from sulderko.answers import Code, Conflicts, Fault, Outcome, TooManySets, Verdict
+from sulderko.answers import Code, Conflicts, Fault, Kind, Mode, Move, Outcome, Place, Reason
+from sulderko.answers import Refused, TooManySets, Verdict
 from sulderko.calls import code, conflicts, fault, judge, report, session, table, tokens
 from sulderko.sessions import Session
+from sulderko.stepper import Stepper
 
 __all__ = [
     "Code",
     "Conflicts",
     "Fault",
+    "Kind",
+    "Mode",
+    "Move",
     "Outcome",
+    "Place",
+    "Reason",
+    "Refused",
     "Session",
+    "Stepper",
     "TooManySets",
     "Verdict",
     "code",

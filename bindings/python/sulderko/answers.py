@@ -94,3 +94,75 @@ class Conflicts:
 
     shift_reduce: int
     reduce_reduce: int
+
+
+class Kind(IntEnum):
+    """The kind of a move."""
+
+    SHIFT = 1
+    REDUCE = 2
+    ACCEPT = 3
+    DETECT = 4
+    POP = 5
+    SHIFT_ERROR = 6
+    DISCARD = 7
+    FAIL = 8
+    INSERT = 9
+    DROP = 10
+
+
+@dataclass(frozen=True)
+class Move:
+    """A step or an edit: its kind, and the number of its symbol or rule; 0 where it has none."""
+
+    kind: Kind
+    subject: int
+
+
+class Mode(IntEnum):
+    """What a parse is doing."""
+
+    RUNNING = 1
+    POPPING = 2
+    ACCEPTED = 3
+    FAILED = 4
+
+
+@dataclass(frozen=True)
+class Place:
+    """Where a parse stands: its mode, how many steps and edits stand, the state on top of its
+    stack, how many symbols that has, how many tokens are upcoming, the recovery counter, and how
+    many errors were reported."""
+
+    mode: Mode
+    position: int
+    state: int
+    height: int
+    left: int
+    counter: int
+    errors: int
+
+
+class Reason(IntEnum):
+    """Why a move is refused."""
+
+    HALTED = 5
+    AT_LIMIT = 6
+    AT_START = 7
+    NO_TOKEN = 8
+    BAD_TOKEN = 9
+    NOT_ACCEPTED = 10
+    HAD_ERROR = 11
+    CLOSED = 12
+
+
+class Refused(Exception):
+    """A call of a parse is refused; `reason` says why."""
+
+    def __init__(self, reason: Reason):
+        super().__init__(reason)
+        self.reason = reason
+
+    def __str__(self) -> str:
+        """The reason in words."""
+        return self.reason.name.lower().replace("_", " ")

@@ -3,7 +3,7 @@ from __future__ import annotations
 
 import ctypes
 import os
-from ctypes import POINTER, c_char, c_char_p, c_size_t, c_uint
+from ctypes import POINTER, c_char, c_char_p, c_size_t, c_uint, c_void_p
 from functools import cache
 from pathlib import Path
 
@@ -50,8 +50,35 @@ class Fault(ctypes.Structure):
     ]
 
 
+class Handle(ctypes.Structure):
+    """struct sulderko_handle"""
+
+    _fields_ = [("at", c_void_p)]
+
+
+class Move(ctypes.Structure):
+    """struct sulderko_move"""
+
+    _fields_ = [("kind", c_uint), ("subject", c_size_t)]
+
+
+class Place(ctypes.Structure):
+    """struct sulderko_place"""
+
+    _fields_ = [
+        ("mode", c_uint),
+        ("position", c_size_t),
+        ("state", c_size_t),
+        ("height", c_size_t),
+        ("left", c_size_t),
+        ("counter", c_size_t),
+        ("errors", c_size_t),
+    ]
+
+
 BYTES = [POINTER(c_char), c_size_t, POINTER(c_size_t)]
 NUMBERS = [POINTER(c_size_t), c_size_t, POINTER(c_size_t)]
+HANDLE = [POINTER(Handle)]
 FORMS = {
     "session": 3 * TEXT + BYTES,
     "table": TEXT + BYTES + [POINTER(Conflicts)],
@@ -60,6 +87,16 @@ FORMS = {
     "tokens": 2 * TEXT + NUMBERS,
     "judge": 2 * TEXT + [POINTER(Verdict)],
     "fault": 2 * TEXT + [POINTER(Fault)],
+    "open": 2 * TEXT + HANDLE,
+    "step": HANDLE + [POINTER(Move)],
+    "back": HANDLE + [POINTER(Move)],
+    "insert": HANDLE + TEXT + [POINTER(Move)],
+    "drop": HANDLE + [POINTER(Move)],
+    "to": HANDLE + [c_size_t],
+    "state": HANDLE + [POINTER(Place)],
+    "show": HANDLE + BYTES,
+    "tree": HANDLE + BYTES,
+    "unwind": HANDLE + BYTES,
 }
 
 
@@ -79,4 +116,5 @@ def library() -> ctypes.CDLL:
     for name, form in FORMS.items():
         call = getattr(found, f"sulderko_{name}")
         call.argtypes, call.restype = form, c_uint
+    found.sulderko_close.argtypes, found.sulderko_close.restype = HANDLE, None
     return found

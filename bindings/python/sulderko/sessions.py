@@ -7,8 +7,8 @@ from sulderko.calls import Text, as_bytes, session
 class Session:
     """A session of `ystep` over a grammar and tokens.
 
-    The library keeps nothing from one call to the next. So a session keeps its command lines, and
-    runs all of them anew for each reply: a line costs what all lines before it cost together.
+    It keeps its command lines, and runs all of them anew for each reply: a line costs what all
+    lines before it cost together. A `Stepper` goes on from where it stands.
     """
 
     def __init__(self, grammar: Text, tokens: Text):

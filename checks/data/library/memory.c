@@ -84,6 +84,20 @@ static unsigned int fault(answer *it) {
   return sulderko_fault(GRAMMAR, strlen(GRAMMAR), TOKENS, strlen(TOKENS), &it->fault);
 }
 
+/* A parse behind a handle, to its end and back to its start, as far as there is memory. */
+static unsigned int parse(answer *it) {
+  sulderko_handle handle = SULDERKO_CLOSED;
+  sulderko_move move;
+  unsigned int status =
+      sulderko_open(GRAMMAR, strlen(GRAMMAR), TOKENS, strlen(TOKENS), &handle);
+  while (status == SULDERKO_DONE)
+    status = sulderko_step(&handle, &move);
+  if (status == SULDERKO_HALTED)
+    status = sulderko_unwind(&handle, it->text, MOST, &it->len);
+  sulderko_close(&handle);
+  return status;
+}
+
 /* Whether an answer is what it may be where memory ran out: that alone, with nothing handed over;
  * all of it; or the replies of a session that says so. */
 static int may_be(unsigned int status, int is_session) {
@@ -128,7 +142,7 @@ static void each_refused(unsigned int (*call)(answer *)) {
 
 int main(void) {
   unsigned int (*const calls[])(answer *) = {session, table, report, code,
-                                                tokens, verdict, fault};
+                                                tokens, verdict, fault, parse};
   size_t at;
   memset(&blank, CANARY, sizeof blank);
   for (at = 0; at < sizeof calls / sizeof *calls; at++)

@@ -7,7 +7,7 @@ use Rattle.ysyntax.specs.declared.fault.GrammarFault.TheVariants as grammars
 use Rattle.ysyntax.specs.declared.fault.PlacedFault.{PlacedFault}
 use Rattle.ysyntax.specs.Lexer.{Refusal}
 use Rattle.ysyntax.specs.Placing.{too_long}
-use Rattle.youtline.specs.declared.mistake.Mistake.{Mistake}
+use Rattle.ydeclarations.specs.declared.mistake.Mistake.{Mistake}
 use Rattle.ygrammar.specs.GrammarOf.{AnswersGrammar, AnswersMistake, AnswersRefusal, HasLine}
 use Rattle.ygrammar.specs.GrammarOf.{IsFaultAt, IsGrammarOf, IsMistaken, IsRefused, line_in, unplaced}
 use Rattle.ylalr.specs.Collection.{IsFault}

@@ -5,3 +5,4 @@ pub mod Sessions
 pub mod Texts
 pub mod Verdicts
 pub mod Faults
+pub mod Handles

@@ -8,7 +8,7 @@ use Rattle.ygenerate.specs.Sources.{AreTablesOf, NoTables}
 use Rattle.ytables.specs.Tables.{TablesValue}
 use Rattle.ytokens.specs.declared.tokens.TokenFault.{TokenFault}
 use Rattle.ytokens.specs.declared.tokens.TokenFault.TheVariants as tokens
-use Rattle.ytokens.specs.Reading.{Gives, TokensOf}
+use Rattle.ytokens.specs.Reading.{Gives}
 use Rattle.yembed.specs.declared.refusal.Refusal.{Refusal}
 use Rattle.yembed.specs.declared.refusal.Refusal.TheVariants.{Source, Tokens, NoRoom}
 

@@ -1,5 +1,5 @@
 -- The tokens of a text, and the verdict on them.
-use Rattle.std.specs.Prelude.{ℕ, ◌≡◌, List, Bool, true, false, if◌then◌else◌, Ok}
+use Rattle.std.specs.Prelude.{ℕ, ◌≡◌, List, false, if◌then◌else◌, Ok}
 use Rattle.ygenerate.specs.Sources.{AreTablesOf}
 use Rattle.ytables.specs.Tables.{TablesValue}
 use Rattle.ytokens.specs.Reading.{TokensOf}

@@ -1,5 +1,5 @@
 //! The proved core as a library for C. Each call reads the bytes that it is given, and writes into
-//! memory of its caller; nothing is kept from one call to the next.
+//! memory of its caller; but for the session behind a handle, nothing is kept.
 //!
 //! The answer is a status: 0 where all was handed over, and else that of a refusal: 1 where the
 //! grammar is refused, 2 where the tokens are, 3 where memory runs out, 4 where there are too many
@@ -18,6 +18,7 @@ ghost use Rattle.yembed.specs.Verdicts.{AreTokens, IsJudged};
 
 mod codes;
 mod faults;
+pub mod handles;
 mod memory;
 mod refusal;
 mod sources;

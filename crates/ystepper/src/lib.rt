@@ -6,6 +6,6 @@ mod ending;
 pub mod fault;
 mod line_buffer;
 pub mod programs;
-mod reply;
+pub mod reply;
 pub mod run;
 pub mod stepper;

@@ -225,8 +225,8 @@ fn put_errors<W: Write>(session: &Session, writer: &mut Link<W>) -> Option<()>
     )
 }
 
-/// Writes the five lines of the configuration now.
-fn put_configuration<W: Write>(session: &Session, writer: &mut Link<W>) -> Option<()>
+/// Writes the five lines of the configuration now. `None` where the link failed.
+pub fn put_configuration<W: Write>(session: &Session, writer: &mut Link<W>) -> Option<()>
     ensures { Sends W.contents writer.old writer.new (is_some result)
         (configuration_text (machine_of session.now) (history_of session.now)) }
 {

@@ -9,12 +9,12 @@ use sulderko_sys as sys;
 const ROOM: usize = 4_096;
 
 /// The pointer and the length of some bytes, as C has them.
-fn parts(text: &[u8]) -> (*const c_char, usize) {
+pub(crate) fn parts(text: &[u8]) -> (*const c_char, usize) {
     (text.as_ptr().cast(), text.len())
 }
 
 /// Calls with some room, and again with as much as is needed, until all fits.
-fn handed<T: Copy + Default>(
+pub(crate) fn handed<T: Copy + Default>(
     mut call: impl FnMut(*mut T, usize, *mut usize) -> c_uint,
 ) -> Result<Vec<T>, c_uint> {
     let mut room = ROOM;
@@ -57,7 +57,7 @@ pub fn fault(grammar: &[u8], tokens: &[u8]) -> Result<Option<Fault>, Error> {
 }
 
 /// Why a call over a grammar and tokens had this status.
-fn error_of(status: c_uint, grammar: &[u8], tokens: &[u8]) -> Error {
+pub(crate) fn error_of(status: c_uint, grammar: &[u8], tokens: &[u8]) -> Error {
     match status {
         sys::BAD_GRAMMAR | sys::BAD_TOKENS => match fault(grammar, tokens) {
             Ok(Some(found)) => Error::Fault(found),

@@ -12,6 +12,8 @@
 
 mod answers;
 mod calls;
+mod stepper;
 
 pub use answers::{Array, Conflicts, Error, Fault, Outcome, Sizes, Verdict};
 pub use calls::{code, fault, judge, report, session, table, tokens};
+pub use stepper::{Move, Place, Refused, Stepper};

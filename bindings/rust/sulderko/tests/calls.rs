@@ -80,3 +80,18 @@ fn threads_call_at_once() {
         assert_eq!(it.join().unwrap(), Outcome::Accepted { steps: 5 });
     }
 }
+
+#[test]
+fn a_parse_goes_forward_and_back() {
+    let mut parse = sulderko::Stepper::new(GRAMMAR, b"NUM ';'").expect("a parse");
+    let kinds: Vec<u32> = parse.by_ref().map(|made| made.kind).collect();
+    assert_eq!(kinds, [2, 1, 1, 2, 3]);
+    assert_eq!(parse.step(), Err(sulderko::Refused::Halted));
+    assert_eq!(parse.back().expect("an undo").kind, 3);
+    assert_eq!(parse.insert(b"nothing"), Err(sulderko::Refused::BadToken));
+    assert_eq!(parse.insert(b"NUM").expect("an edit").kind, 9);
+    assert_eq!(parse.place().position, 5);
+    parse.to(0).expect("the start");
+    assert_eq!(parse.back(), Err(sulderko::Refused::AtStart));
+    assert!(parse.show().expect("a text").starts_with(b"0 running\n"));
+}

@@ -1,0 +1,6 @@
+pub mod Answers
+pub mod Handles
+pub mod Moves
+pub mod Stands
+pub mod Texts
+pub mod Travel
