@@ -17,10 +17,11 @@ from pathlib import Path
 from checks.shared.arguments import asked
 from checks.shared.grammars import productive
 from checks.shared.running import ran, turns
+from checks.shared.spelling import WARNED
 from checks.shared.tables import Tables
 from checks.shared.tally import Tally
 
-HEAD = re.compile(r"conflict \d+: state \d+ on (\S+): ")
+HEAD = re.compile(WARNED + r"conflict \d+: state \d+ on (\S+): ")
 TWO = "  The grammar is ambiguous: two trees for "
 BY = re.compile(r"  by (?:the shift|rule (\d+)(?: \(line \d+\))?):(.*)")
 ROOT = re.compile(r"( +)(\S+)  rule (\d+)")
@@ -273,7 +274,7 @@ def compared(ydebug, room, rng, counts):
     grammar = productive(rng)
     (Path(room) / "grammar.y").write_text(grammar.text)
     made = ran([ydebug, "conflicts", "grammar.y"], room)
-    counts["conflicts"] += made.stdout.count("\nconflict ")
+    counts["conflicts"] += made.stdout.count(": warning: conflict ")
     counts["searches in vain"] += made.stdout.count("No sentence with two trees")
     wrong = differences(grammar, made.stdout, counts)
     return [f"{grammar.text}{wrong}\n{made.stderr}"] if wrong or made.returncode else []

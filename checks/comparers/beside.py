@@ -4,9 +4,10 @@ import re
 from copy import copy
 
 from checks.comparers.causes import changed
+from checks.shared.spelling import WARNED
 
 ALSO = re.compile(r"  In a line of %left after all others, that also settles conflicts? (.*)\.")
-HEAD = re.compile(r"conflict (\d+): state (\d+) on (\S+): ")
+HEAD = re.compile(WARNED + r"conflict (\d+): state (\d+) on (\S+): ")
 OTHERS = re.compile(r"  (The same|Also) on \d+ other tokens?, conflicts? (.*):")
 BEGINS = re.compile(r"  (\S+) can begin what comes next in:")
 ITEM = re.compile(r"    rule (\d+) (?:\(line \d+\) )? ?(.*)")

@@ -23,6 +23,7 @@ from checks.comparers.chains import wrong_chains
 from checks.shared.arguments import asked
 from checks.shared.grammars import ERROR, productive
 from checks.shared.running import ran, turns
+from checks.shared.spelling import WARNED
 from checks.shared.tables import Canonical, Tables, core_of, merged
 from checks.shared.tally import Tally
 
@@ -126,7 +127,7 @@ class Checked:
 COUNTS = re.compile(r"grammar\.y: (\d+) shift/reduce, (\d+) reduce/reduce, in ")
 UNSOUGHT = re.compile(r"(?m)^(\d+) kinds? more; the search for ")
 UNSOUGHT_CELL = re.compile(r"(?m)^state (\d+) on (\S+): (?:shift|accept|reduce)")
-HEAD = re.compile(r"conflict \d+: state (\d+) on (\S+): (shift|accept|reduce)")
+HEAD = re.compile(WARNED + r"conflict \d+: state (\d+) on (\S+): (shift|accept|reduce)")
 
 
 def parts_of(text):
@@ -135,7 +136,7 @@ def parts_of(text):
     for line in text.splitlines():
         if HEAD.match(line):
             found.append([line])
-        elif line.startswith("warning") or not line:
+        elif re.match(WARNED, line) or not line:
             found.append([])
         elif found:
             found[-1].append(line)

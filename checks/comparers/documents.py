@@ -21,6 +21,7 @@ from checks.shared.arguments import asked
 from checks.shared.grammars import productive
 from checks.shared.places import SCENARIOS
 from checks.shared.running import ran, turns
+from checks.shared.spelling import WARNED
 from checks.shared.tally import Tally
 
 VERSION = 1
@@ -28,10 +29,11 @@ COUNTS = re.compile(
     r"grammar\.y: (\d+) shift/reduce, (\d+) reduce/reduce, in (\d+) cells? of (\d+) kinds?"
 )
 REDUCE = re.compile(r"  reduce  rule (\d+) (?:\(line (\d+)\))? *(.*)")
-WARNING = re.compile(r"warning: (?:line (\d+): )?(.*)")
+WARNING = re.compile(r"grammar\.y(?::(\d+))?(?::(\d+))?: warning: (?!conflict \d)(.*)")
 STATES = re.compile(r"  The same in (\d+) states, the last of them (\d+)\.")
 MORE = re.compile(r"(?m)^\d+ kinds? more[;,]")
-NUMBER = re.compile(r"conflict (\d+): ")
+NUMBER = re.compile(WARNED + r"conflict (\d+): ")
+PLACE = re.compile(r"grammar\.y:(\d+):(\d+): ")
 # Further tokens of a block, which stand on the lines after this one.
 OTHERS = re.compile(r"  (?:The same|Also) on \d+ other tokens?, conflicts? (.*):")
 TOKEN = re.compile(r"'.[^']*'|\S+")
@@ -137,11 +139,25 @@ def wrong_other(head, kind, token):
     return None if fits else f"{token} beside {head}, told {kind}"
 
 
+def first_lost(kind):
+    """The first rule of a conflict that isn't taken."""
+    return kind["rules"][kind["taken"] == "reduce"]
+
+
+def wrong_front(line, kind):
+    """What is wrong with the place in front of a conflict: it is that of the first rule that isn't
+    taken."""
+    told, rule = PLACE.match(line), first_lost(kind)
+    fits = told and [int(it) for it in told.groups()] == [rule["line"], rule["column"]]
+    return None if fits else f"{rule}, told {line}"
+
+
 def wrong_block(part, kinds):
     """What is wrong with a block of conflicts."""
     head = kinds[int(NUMBER.match(part[0])[1]) - 1]
     wrong = [wrong_other(head, kinds[at - 1], token) for at, token in others_in(part)]
-    return wrong_kind(part, head) or next(filter(None, wrong), None)
+    wrong = [wrong_front(part[0], head), wrong_kind(part, head), *wrong]
+    return next(filter(None, wrong), None)
 
 
 def wrong_places(parts, kinds, text):
@@ -177,7 +193,7 @@ def wrong_columns(source, kinds):
 def wrong_heads(kinds, diagnostics):
     """What is wrong with the places of conflicts: those of their first rules that aren't taken."""
     for kind, told in zip(kinds, diagnostics):
-        first = kind["rules"][kind["taken"] == "reduce"]
+        first = first_lost(kind)
         if (told["line"], told["column"]) != (first["line"], first["column"]):
             return f"{first}, told {told}"
     return None
@@ -201,8 +217,10 @@ def wrong_spots(source, diagnostics):
 
 def wrong_warnings(text, diagnostics):
     """What is wrong with the warnings: they stand after the conflicts."""
-    told = [(it[1] and int(it[1]), it[2]) for it in map(WARNING.fullmatch, text.split("\n")) if it]
-    ours = [(it["line"], it["message"]) for it in diagnostics][len(diagnostics) - len(told) :]
+    found = filter(None, map(WARNING.fullmatch, text.split("\n")))
+    told = [(it[1] and int(it[1]), it[2] and int(it[2]), it[3]) for it in found]
+    ours = [(it["line"], it["column"], it["message"]) for it in diagnostics]
+    ours = ours[len(diagnostics) - len(told) :]
     return None if told == ours else f"warnings {told}, told {ours}"
 
 

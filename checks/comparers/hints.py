@@ -16,16 +16,19 @@ from pathlib import Path
 from checks.shared.arguments import asked
 from checks.shared.precedences import Cells, Draw, whole
 from checks.shared.running import ran, turns
+from checks.shared.spelling import WARNED
 from checks.shared.tally import Tally
 
 KINDS = ["left", "right", "nonassoc"]
 LOW, HIGH = "LOWEST", "HIGHEST"
-CONFLICT = re.compile(r"conflict \d+: state (\d+) on (\S+): ")
+CONFLICT = re.compile(WARNED + r"conflict \d+: state (\d+) on (\S+): ")
 RIVAL = re.compile(r"  reduce  rule (\d+)")
 FURTHER = re.compile(r"  Also on ")
 SAME = re.compile(r"  The same on ")
-IDLE_TOKEN = re.compile(r"warning: line (\d+): the precedence of (\S+) settles nothing")
-IDLE_RULE = re.compile(r"warning: line \d+: the %prec of rule (\d+) settles nothing")
+IDLE_TOKEN = re.compile(
+    r"\S+?:(\d+):\d+: warning: the precedence of (\S+) settles nothing"
+)
+IDLE_RULE = re.compile(WARNED + r"the %prec of rule (\d+) settles nothing")
 
 
 class Trial:
@@ -273,7 +276,7 @@ class Report:
                 self.said.append(line)
                 yield from self.judge(line, self.trial)
                 yield from self.same(self.rest, [line])
-            elif line.startswith("warning: "):
+            elif re.match(WARNED, line):
                 holds = judged_warning(self.draw, line)
                 if holds is not None:
                     yield "warnings", line, holds

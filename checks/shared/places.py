@@ -7,6 +7,6 @@ SCENARIOS, EXAMPLES, CRATES, DRIVERS = (
 )
 # The folders that hold scenarios, and the pages that tell some.
 ROOTS = SCENARIOS, EXAMPLES
-TUTORIAL, FAULTS = TOP / "docs/TUTORIAL.md", TOP / "docs/FAULTS.md"
-PAGES = TUTORIAL, FAULTS
+TUTORIAL, FAULTS, COURSE = (TOP / "docs" / f"{it}.md" for it in ("TUTORIAL", "FAULTS", "COURSE"))
+PAGES = TUTORIAL, FAULTS, COURSE
 DATA = TOP / "checks/data"

@@ -4,6 +4,8 @@ import re
 from checks.shared.reader import LITERAL, lexeme_at, lexemes_of, value_of
 
 WORD = re.compile(rb"%b|[^\s']+" % LITERAL.pattern)
+# How a line of ydebug begins that warns of a place of a file, or of the whole file.
+WARNED = r"\S+: warning: "
 
 
 def shown(value):

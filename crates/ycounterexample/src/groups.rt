@@ -2,7 +2,7 @@
 
 use indexmap::IndexMap;
 use std::alloc::{AllocError, Global};
-use yexplain::lines::Lines;
+use yexplain::lines::{Lines, Spot};
 use yexplain::reads::{candidates_of, conflicts_of, items_of, next_of, rivals_in, shift_of};
 use yexplain::why::Question;
 use ylalr::Automaton;
@@ -63,6 +63,12 @@ impl Kind {
             state: group.state,
             token: self.token,
         }
+    }
+
+    /// Where the first rule stands that isn't taken.
+    pub fn spot(&self, lines: &Lines) -> Option<Spot> {
+        let rule = self.others().first()?;
+        lines.spot(*rule)
     }
 
     /// The rules that are shown: the one that is taken, if it is a rule, and then the others.

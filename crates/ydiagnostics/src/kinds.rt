@@ -283,8 +283,7 @@ impl Shown<'_> {
         grammar: &Grammar,
         cells: (&Kind, Group),
     ) -> io::Result<Diagnostic> {
-        let rule = cells.0.others().first().copied().unwrap_or(0);
-        let (spot, path) = (self.lines.spot(rule), Some(self.path));
+        let (spot, path) = (cells.0.spot(self.lines), Some(self.path));
         let message = message_of(alloc, grammar, cells)?;
         Ok(Diagnostic::new(alloc, path, spot, self.severity, message)?)
     }

@@ -53,6 +53,36 @@ pub struct Mention {
     pub role: Role,
 }
 
+/// A lexeme of the text of a grammar: where it stands, and what it is there for.
+#[derive(Clone, Copy, Drop, PartialEq, Eq)]
+pub struct Site {
+    /// How many bytes stand before it.
+    pub at: usize,
+    /// Where the name of a left side ends, before its colon; of any other lexeme its own end.
+    pub name_end: usize,
+    /// How many bytes stand before what follows it.
+    pub end: usize,
+    /// What it is there for.
+    pub role: Role,
+}
+
+impl Site {
+    /// That of a lexeme with its role.
+    fn of(mark: Mark<'_>) -> Site {
+        let Mark { placed, role } = mark;
+        let name_end = match placed.lexeme {
+            Lexeme::CIdentifier(name) => placed.at.saturating_add(name.len()),
+            _ => placed.end,
+        };
+        Site {
+            at: placed.at,
+            name_end,
+            end: placed.end,
+            role,
+        }
+    }
+}
+
 /// A rule: where it begins, and what its `%prec` names.
 #[derive(Clone, Copy, Drop)]
 struct Begun {
@@ -72,6 +102,7 @@ pub struct Lines {
     /// By number; none for rule 0.
     rules: Vec<Option<Begun>>,
     mentions: Vec<Mention>,
+    sites: Vec<Site>,
 }
 
 impl Drop for Lines {
@@ -80,6 +111,7 @@ impl Drop for Lines {
         let Lines {
             rules: _,
             mentions: _,
+            sites: _,
         } = self;
     }
 }
@@ -241,6 +273,15 @@ fn places_of(alloc: Global, marks: &[Mark<'_>], spots: &[Spot], grammar: &Gramma
     Ok(places)
 }
 
+/// The lexemes of a text.
+fn sites_of(alloc: Global, marks: &[Mark<'_>]) -> Made<Vec<Site>> {
+    let mut sites = Vec::with_capacity(alloc, marks.len())?;
+    for mark in marks {
+        sites.push(Site::of(*mark))?;
+    }
+    Ok(sites)
+}
+
 impl Lines {
     /// Where the rules and symbols of a grammar stand in the file that it was read from, by its
     /// source map and the places of the lexemes there. It fails only when memory runs out.
@@ -253,7 +294,17 @@ impl Lines {
         let places = places_of(alloc, marks, spots, grammar)?;
         let rules = places.by_number(alloc, grammar)?;
         let Places { mentions, .. } = places;
-        Ok(Lines { rules, mentions })
+        let sites = sites_of(alloc, marks)?;
+        Ok(Lines {
+            rules,
+            mentions,
+            sites,
+        })
+    }
+
+    /// The lexemes of the text that was read: of a file of bison, those of what it becomes.
+    pub fn sites(&self) -> &[Site] {
+        &self.sites
     }
 
     /// Where a rule begins: at its name or its bar, or at its action where it is the rule of an

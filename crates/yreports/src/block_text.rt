@@ -1,7 +1,7 @@
 //! A block of conflicts as it is written, but for the lists of tokens that get to it.
 
 use crate::blocks::{Block, Class, Entry};
-use crate::kinds::put_states;
+use crate::kinds::{put_front, put_states};
 use crate::numbers::Ranges;
 use std::io::Write;
 use yexplain::lines::Lines;
@@ -19,6 +19,8 @@ const WIDTH: usize = 78;
 /// What blocks are written with.
 #[derive(Clone, Copy)]
 pub struct BlockText<'a> {
+    /// The path of the grammar file.
+    pub path: &'a str,
     /// The tables.
     pub tables: &'a Tables,
     /// Where rules stand in the file.
@@ -91,6 +93,7 @@ impl BlockText<'_> {
     pub fn put<W: Write>(self, page: &mut Page<W>, block: &Block) {
         let entry = block.first;
         page.end();
+        put_front(page, self.path, entry.kind.spot(self.lines));
         let _ = write!(page, "conflict {}: ", entry.number.saturating_add(1));
         let asked = entry.cell(self.tables, self.lines);
         let _ = explain(page, asked);

@@ -2,7 +2,7 @@
 
 use std::io::Write;
 use ycounterexample::groups::{Conflicts, Group};
-use yexplain::lines::Lines;
+use yexplain::lines::{Lines, Spot};
 use yexplain::why::put_cell;
 use ytables::Tables;
 use yview::page::Page;
@@ -16,6 +16,15 @@ pub fn put_counts<W: Write>(page: &mut Page<W>, tables: &Tables, found: &Conflic
     page.put(" of ");
     page.count(found.groups.len(), "kind", "kinds");
     page.end();
+}
+
+/// Writes the beginning of a line that warns of a place of a file, or of the whole file.
+pub fn put_front<W: Write>(page: &mut Page<W>, path: &str, spot: Option<Spot>) {
+    page.put(path);
+    if let Some(spot) = spot {
+        let _ = write!(page, ":{spot}");
+    }
+    page.put(": warning: ");
 }
 
 /// Writes in how many states the conflicts of a kind stand, where that is more than one.

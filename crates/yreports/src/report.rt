@@ -51,6 +51,7 @@ pub struct Asked<'a> {
 struct Report<'a, W, F> {
     alloc: Global,
     page: &'a mut Page<W>,
+    path: &'a str,
     lines: &'a Lines,
     folder: Folder<'a, F>,
     /// For how many more conflicts copies of nonterminals are tried.
@@ -131,9 +132,13 @@ impl<W: Write, F: Files + AllocGlobal + Clone + Drop> Report<'_, W, F> {
         block: &Block,
         sources: &[Source],
     ) -> Result<(), AllocError> {
-        let lines = self.lines;
-        let text = BlockText { tables, lines };
-        text.put(self.page, block);
+        let (path, lines) = (self.path, self.lines);
+        BlockText {
+            path,
+            tables,
+            lines,
+        }
+        .put(self.page, block);
         let asked = block.first.cell(tables, lines);
         put_leading(self.alloc, self.page, asked)?;
         let _ = asked.put_sources(self.page, sources);
@@ -154,9 +159,13 @@ impl<W: Write, F: Files + AllocGlobal + Clone + Drop> Report<'_, W, F> {
 
     /// Writes on which tokens the other conflicts of a block are settled otherwise.
     fn put_further(&mut self, tables: &Tables, block: &Block) {
-        let lines = self.lines;
-        let text = BlockText { tables, lines };
-        text.put_further(self.page, block);
+        let (path, lines) = (self.path, self.lines);
+        BlockText {
+            path,
+            tables,
+            lines,
+        }
+        .put_further(self.page, block);
     }
 
     /// Writes the lists for the first conflict of a block.
@@ -227,6 +236,7 @@ fn put_lists<'a, W: Write, F: Files + AllocGlobal + Clone + Drop>(
     let mut report = Report {
         alloc: rt.alloc(),
         page,
+        path: asked.grammar,
         lines,
         folder: Folder {
             rt,
@@ -271,7 +281,13 @@ fn put_both<W: Write, E: Write, F: Files + AllocGlobal + Clone + Drop>(
     lines: &Lines,
 ) -> io::Result<u8> {
     let failed = put_lists(rt, &mut *page, asked, session, lines, found)?;
-    let warnings = put_warnings(&mut *page, rt.alloc(), session.tables(), lines)?;
+    let warnings = put_warnings(
+        &mut *page,
+        asked.grammar,
+        rt.alloc(),
+        session.tables(),
+        lines,
+    )?;
     page.checked()?;
     let is_bad = found.cells > 0 || warnings > 0;
     put_failed(

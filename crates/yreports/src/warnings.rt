@@ -1,5 +1,6 @@
 //! What deserves a warning in a grammar without a fault.
 
+use crate::kinds::put_front;
 use crate::unused::Done;
 use std::alloc::{AllocError, Global};
 use std::io::Write;
@@ -214,18 +215,16 @@ pub fn warnings_of(
 }
 
 /// Writes a warning.
-fn put_warning<W: Write>(page: &mut Page<W>, warning: &Warning) {
-    page.put("warning: ");
-    if let Some(spot) = warning.spot {
-        let _ = write!(page, "line {}: ", spot.line);
-    }
+fn put_warning<W: Write>(page: &mut Page<W>, path: &str, warning: &Warning) {
+    put_front(page, path, warning.spot);
     page.line(&warning.text);
 }
 
-/// Writes a line for each warning, after an empty one, and says how many there are. It fails only
+/// Writes a line for each warning on this file, after an empty one, and says how many there are. It fails only
 /// when memory runs out.
 pub fn put_warnings<W: Write>(
     page: &mut Page<W>,
+    path: &str,
     alloc: Global,
     tables: &Tables,
     lines: &Lines,
@@ -235,7 +234,7 @@ pub fn put_warnings<W: Write>(
         page.end();
     }
     for warning in &warnings {
-        put_warning(page, warning);
+        put_warning(page, path, warning);
     }
     Ok(warnings.len())
 }

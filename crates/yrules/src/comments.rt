@@ -4,9 +4,10 @@
 //! any part of a file is.
 
 use std::alloc::{AllocError, Global};
+use yexplain::lines::Site;
 use ylexemes::front::part_at;
-use ylexemes::part::{Lexeme, Part};
-use ysourcemap::{Mark, Role};
+use ylexemes::part::Part;
+use ysourcemap::Role;
 
 /// A comment among the rules of a file.
 #[derive(Clone, Copy)]
@@ -101,10 +102,10 @@ impl<'a> Found<'a> {
     }
 
     /// Adds the comments in a lexeme, between a left side and its colon, and those after it.
-    fn add_around(&mut self, mark: &Mark<'_>, gap: Gap) -> Result<(), AllocError> {
-        if let Lexeme::CIdentifier(name) = mark.placed.lexeme {
+    fn add_around(&mut self, site: Site, gap: Gap) -> Result<(), AllocError> {
+        if site.name_end < site.end {
             self.add_gap(Gap {
-                from: mark.placed.at.saturating_add(name.len()),
+                from: site.name_end,
                 before: gap.before,
                 after: None,
             })?;
@@ -114,32 +115,32 @@ impl<'a> Found<'a> {
 }
 
 /// Where the lexemes begin and end that stand from the first mark on, up to the second one.
-fn among_rules(marks: &[Mark<'_>]) -> (usize, usize) {
-    let is_mark = |mark: &Mark<'_>| mark.role == Role::Mark;
-    let first = marks.iter().position(is_mark).unwrap_or(marks.len());
-    let last = marks.iter().rposition(is_mark).unwrap_or(first);
-    (first, if last > first { last } else { marks.len() })
+fn among_rules(sites: &[Site]) -> (usize, usize) {
+    let is_mark = |site: &Site| site.role == Role::Mark;
+    let first = sites.iter().position(is_mark).unwrap_or(sites.len());
+    let last = sites.iter().rposition(is_mark).unwrap_or(first);
+    (first, if last > first { last } else { sites.len() })
 }
 
-/// The comments among the rules of a file with this source map, in their order, each with its
+/// The comments among the rules of a text with these lexemes, in their order, each with its
 /// alternative.
 pub fn comments_of<'a>(
     alloc: Global,
     source: &'a [u8],
-    marks: &[Mark<'a>],
+    sites: &[Site],
 ) -> Result<Vec<Comment<'a>>, AllocError> {
     let comments = Vec::new(alloc);
     let mut found = Found { source, comments };
-    let (from, to) = among_rules(marks);
-    let marks = marks.get(from..to).unwrap_or(&[]);
+    let (from, to) = among_rules(sites);
+    let sites = sites.get(from..to).unwrap_or(&[]);
     let mut before = None;
-    for (index, mark) in marks.iter().enumerate() {
-        before = begun_by(mark.role).or(before);
-        let next = marks.get(index.saturating_add(1));
+    for (index, site) in sites.iter().enumerate() {
+        before = begun_by(site.role).or(before);
+        let next = sites.get(index.saturating_add(1));
         let after = next.and_then(|next| begun_by(next.role));
-        let from = mark.placed.end;
+        let from = site.end;
         found.add_around(
-            mark,
+            *site,
             Gap {
                 from,
                 before,

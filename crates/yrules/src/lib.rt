@@ -1,9 +1,9 @@
 //! Names for the rules of a grammar, for programs that parse by its table.
 //!
-//! `opening` finds the lexemes of an open file. `comments` finds the comments among its rules,
-//! `given` the names that they give, `stems` has what each alternative is called, `names` the
-//! names of all rules, and `refusal` why there are none. `list`, `header` and `python` write a
-//! `sheet` of all of it, and `run` is the command.
+//! `comments` finds the comments among the rules of an open file, `given` the names that they
+//! give, `stems` has what each alternative is called, `names` the names of all rules, and `refusal`
+//! why there are none. `list`, `header` and `python` write a `sheet` of all of it, and `run` is the
+//! command.
 #![tactic(auto)]
 
 mod comments;
@@ -11,7 +11,6 @@ mod given;
 mod header;
 mod list;
 mod names;
-mod opening;
 mod python;
 mod refusal;
 pub mod run;

@@ -5,7 +5,6 @@ use crate::given::given_in;
 use crate::header::put_header;
 use crate::list::put_list;
 use crate::names::{Names, names_of};
-use crate::opening::marks_of;
 use crate::python::put_module;
 use crate::refusal::Trouble;
 use crate::sheet::{Sheet, tokens_of};
@@ -18,9 +17,7 @@ use yexplain::reads::grammar_of;
 use yfaults::opening::Opened;
 use yfiles::same::{is_same_file, refused_output};
 use yfiles::writing::put_output;
-use ygrammar::Mark;
 use yinput::grammars::{GrammarFile, GrammarText, open_with_text};
-use ysymbols::Grammar;
 
 /// What is asked for: the names of the rules of a grammar file, in a header, in a module, or where
 /// neither is wanted, in a list.
@@ -34,16 +31,12 @@ pub struct Asked<'a> {
     pub python: Option<&'a str>,
 }
 
-/// The names of the rules of a file with this source map.
-fn named(
-    alloc: Global,
-    bytes: &[u8],
-    marks: &[Mark<'_>],
-    grammar: &Grammar,
-) -> Result<Names, Trouble> {
-    let comments = comments_of(alloc, bytes, marks)?;
+/// The names of the rules of a text that is open.
+fn named(alloc: Global, bytes: &[u8], opened: &Opened) -> Result<Names, Trouble> {
+    let (grammar, sites) = (grammar_of(&opened.tables), opened.lines.sites());
+    let comments = comments_of(alloc, bytes, sites)?;
     let given = given_in(alloc, &comments)?;
-    let stems = stems_of(alloc, grammar, marks, &given)?;
+    let stems = stems_of(alloc, grammar, sites, &given)?;
     names_of(alloc, grammar, &stems)
 }
 
@@ -113,8 +106,7 @@ fn put_open<F: Files + AllocGlobal, W: Write, E: Write>(
     errors: &mut E,
 ) -> io::Result<u8> {
     let GrammarText { bytes, opened, .. } = text;
-    let marks = marks_of(rt.alloc(), bytes)?;
-    match named(rt.alloc(), bytes, &marks, grammar_of(&opened.tables)) {
+    match named(rt.alloc(), bytes, opened) {
         Ok(names) => put_named(rt, asked, opened, &names, out, errors),
         Err(Trouble::Refused(refusal)) => {
             refusal.put(errors, (asked.grammar.path, bytes), &opened.lines)?;

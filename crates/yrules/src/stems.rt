@@ -5,10 +5,9 @@ use crate::comments::begun_by;
 use crate::given::{Given, given_to};
 use std::alloc::{AllocError, Global};
 use std::fmt;
-use yexplain::lines::is_inner;
+use yexplain::lines::{Site, is_inner};
 use yexplain::reads::{left_of, name_of};
 use yexplain::text::Bytes;
-use ysourcemap::Mark;
 use ysymbols::{Grammar, Sym};
 
 /// What an alternative is called.
@@ -73,11 +72,11 @@ impl Places {
 }
 
 /// Where the alternatives of a file begin.
-fn starts_of(alloc: Global, marks: &[Mark<'_>]) -> Result<Vec<usize>, AllocError> {
-    marks
+fn starts_of(alloc: Global, sites: &[Site]) -> Result<Vec<usize>, AllocError> {
+    sites
         .iter()
-        .filter(|mark| begun_by(mark.role).is_some())
-        .map(|mark| mark.placed.at)
+        .filter(|site| begun_by(site.role).is_some())
+        .map(|site| site.at)
         .collect(alloc)
 }
 
@@ -86,11 +85,11 @@ fn starts_of(alloc: Global, marks: &[Mark<'_>]) -> Result<Vec<usize>, AllocError
 pub fn stems_of<'a>(
     alloc: Global,
     grammar: &'a Grammar,
-    marks: &[Mark<'a>],
+    sites: &[Site],
     given: &[Given<'a>],
 ) -> Result<Vec<Stem<'a>>, AllocError> {
     let mut places = Places(vec![in alloc; 0; grammar.symbols()]?);
-    let starts = starts_of(alloc, marks)?;
+    let starts = starts_of(alloc, sites)?;
     let mut stems = Vec::with_capacity(alloc, starts.len())?;
     for rule in (1..grammar.rules()).filter(|rule| !is_inner(grammar, *rule)) {
         let left = left_of(grammar, rule).unwrap_or(0);
