@@ -1,0 +1,28 @@
+"use strict";
+/* What stands in the page of the playground: the library in its worker, and the functions of its
+   script that take texts apart. */
+const { readFileSync } = require("fs");
+const { runInThisContext } = require("vm");
+
+const element = (page, id) => new RegExp(`<script[^>]* id="${id}">([^]*?)</script>`).exec(page)[1];
+
+/* The names in front of the first part that needs a browser. */
+const NAMES = "STEP, EDIT, AHEAD, FAR, repliesOf, standing, condensed, rowsOf, reportOf, statesOf, "
+  + "cellFor, cutAtDot, placesOf, wordsOf";
+
+const calling = (...parts) => runInThisContext(`(() => {${parts.join("\n")}})()`);
+
+/* The library of a page, loaded as its worker does it. */
+async function libraryIn(path) {
+  const page = readFileSync(path, "utf8");
+  const bytes = Buffer.from(element(page, "module"), "base64");
+  return calling("const self = {};", element(page, "worker"), "return libraryOf;")(bytes);
+}
+
+/* The functions of a page that take texts apart. */
+function readingsIn(path) {
+  const script = readFileSync(path, "utf8").split("<script>")[1].split("</script>")[0];
+  return calling(script.replace(/^document\..*$/m, ""), `return { ${NAMES} };`);
+}
+
+module.exports = { libraryIn, readingsIn };

@@ -1,0 +1,1 @@
+"""The page of the playground and the module in it, beside `ystep` and `yacc`."""

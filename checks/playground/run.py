@@ -1,0 +1,124 @@
+"""Runs the playground: the module in its page by node, and the page in a headless browser.
+
+    playground [--at PAGE] [--drawn N] [--install] [--shots FOLDER] [ystep=PATH]
+
+Every scenario of `ystep` but those that ask for help comes back, byte for byte, from the module in
+PAGE, which is bin/playground.html unless given; so do the reports of the scenarios of `yacc`, and
+the replies to command lines over N grammars drawn at random (2,000), beside those of `ystep`. What
+the script of the page reads in these texts is compared with what stands there, and so is what
+docs/COURSE.md says is to be seen. The heap gives blocks at random, over memory of this machine. In
+the browser each example is stepped through by the keys, to the end and back; a fault is typed, a
+token is inserted and one dropped, an accepted parse unwound, an address opened, files are dropped,
+and an answer that takes long is broken off. With --install Debian's chromium and chromium-driver
+are installed by apt-get where they are missing. A line says what is skipped where node, `ystep` or
+a browser isn't there. Pictures are kept in FOLDER, which is `screenshots` unless given. The last
+line is `N passed, M failed`.
+"""
+import gzip
+import re
+import shutil
+import sys
+import tempfile
+from pathlib import Path
+
+from checks.library.run import compare_scenarios, count, stored
+from checks.pages import test as pages
+from checks.playground.course import compare_course
+from checks.playground.module import compare_drawn, compare_reports
+from checks.playground.page import compare_page
+from checks.scenarios.folders import Fault
+from checks.shared.arguments import asked
+from checks.shared.libraries import compiler
+from checks.shared.places import DATA, TOP
+from checks.shared.programs import is_program, programs_of, proved
+from checks.shared.running import ran
+from checks.shared.tally import Tally
+
+SOURCES, PAGE = TOP / "packaging/playground", TOP / "bin/playground.html"
+MOST = 900_000
+ELSEWHERE = re.compile(r"https?:|\bimport\s*\(|\bfetch\(|XMLHttpRequest|<link[^>]*href=\"(?!data:)")
+
+
+def lint(tally):
+    """The sources of the page are small and plain, and take nothing from elsewhere."""
+    for file in sorted((*SOURCES.glob("*.js"), *SOURCES.glob("*.css"), *SOURCES.glob("*.html"))):
+        text = file.read_text().replace("'wasm-unsafe-eval'", "")
+        pages.lint_text(tally, file.name, text)
+
+
+def look_at(tally, text):
+    """The page is one file, and not large."""
+    size = len(gzip.compress(text.encode()))
+    tally.hold("the size of the page", size <= MOST, size)
+    found = ELSEWHERE.findall(text)
+    tally.hold("nothing from elsewhere", not found, found)
+
+
+def in_node(room, page):
+    """The program ystep over the module in a page, as a file that can be run."""
+    file = Path(room) / "ystep"
+    words = shutil.which("node"), DATA / "playground/ystep.js", page
+    file.write_text("#!/bin/sh\nexec {} {} {} \"$@\"\n".format(*map(str, words)))
+    file.chmod(0o755)
+    return str(file)
+
+
+def compare_heap(room, source, tally):
+    """The heap of the module, over memory of this machine."""
+    made, place = Path(room) / "heap", "-Wl,--defsym=__heap_base=0x10000000"
+    words = [compiler(), "-O2", "-Wall", "-Wextra", "-Werror", "-no-pie", place]
+    words += [f'-DHEAP="{source}"', DATA / "playground/heap.c", "-o", made]
+    built = ran([str(it) for it in words])
+    if built.returncode:
+        raise Fault(f"the heap is not compiled: {built.stderr}")
+    count("the heap", ran([str(made)]), tally)
+
+
+def compare_module(page, drawn, program, tally):
+    """The module, by node."""
+    if not shutil.which("node"):
+        print("skipped: there is no node", flush=True)
+        return
+    with tempfile.TemporaryDirectory() as room:
+        compare_heap(room, SOURCES / "heap.c", tally)
+        compare_scenarios("the module", in_node(room, page), stored(), tally)
+    compare_reports(page, tally)
+    compare_course(page, tally)
+    if program:
+        compare_drawn(page, program, drawn, tally)
+    else:
+        print("skipped: there is no ystep", flush=True)
+
+
+def program_of(words):
+    """The path of ystep, where one is given or was proved."""
+    path = programs_of(words).get("ystep", proved("ystep"))
+    return path if Path(path).is_file() else None
+
+
+def browse(page, given, tally):
+    """The page, in a browser, where there is one."""
+    missing = pages.missing()
+    if missing and not (given.install and pages.install(missing)):
+        print(f"skipped: no {' and no '.join(missing)}: the page isn't opened", flush=True)
+        return
+    compare_page(page, Path(given.shots), tally)
+
+
+def main(words):
+    """Runs the playground."""
+    programs = [it for it in words if is_program(it)]
+    rest = [it for it in words if not is_program(it)]
+    given = asked(__doc__, rest, at=str(PAGE), drawn=2000, install=False, shots="screenshots")
+    page, tally = Path(given.at).absolute(), Tally()
+    if not page.is_file():
+        sys.exit(f"no {page}: make playground")
+    lint(tally)
+    look_at(tally, page.read_text())
+    for part in (lambda: compare_module(page, given.drawn, program_of(programs), tally),
+                 lambda: browse(page, given, tally)):
+        try:
+            part()
+        except (Fault, OSError, pages.Fault) as fault:
+            tally.take("the playground", [f"{fault}\n"])
+    return tally.end()

@@ -1,0 +1,130 @@
+"""Makes the module of the playground: the library in WebAssembly.
+
+The crate yembed is proved and compiled as for the library, and what the backend hands to clang is
+kept on its way. As LLVM's text it is given the machine of WebAssembly, compiled and linked by the
+kit's clang and lld beside a heap in C, and narrowed.
+"""
+import re
+import shutil
+import sys
+from pathlib import Path
+
+import library
+from binary import Refused
+from narrow import narrowed
+
+HERE = Path(__file__).resolve().parent
+TARGET, NATIVE = "wasm64-unknown-unknown", "x86_64-unknown-linux-gnu"
+STACK = 1 << 20
+C_FILES = "heap", "wide"
+# What the module exports beside its memory: calls of the library, and the heap's for the page.
+CALLS = tuple(f"sulderko_{it}" for it in "fault judge report session table tokens".split())
+OF_THE_HEAP = "host_alloc", "host_free"
+# What stands as clang in a folder of tools.
+KEEPER = """#!{python} -IS
+import os, shutil, sys
+for word in sys.argv[1:]:
+    if word.endswith((".bc", ".ll")) and os.path.isfile(word):
+        shutil.copyfile(word, {kept!r})
+os.execv({clang!r}, [{clang!r}, *sys.argv[1:]])
+"""
+MACHINE = re.compile(r'^target (datalayout|triple) = ".*"$', re.M)
+OF_MACHINES = "probe-stack", "stack-probe-size", "target-cpu", "target-features", "tune-cpu"
+ATTRIBUTES = re.compile(f' "(?:{"|".join(OF_MACHINES)})"="[^"]*"')
+
+
+def keeping_tools(at, room, kept):
+    """A folder of tools in which clang keeps the module that it is given."""
+    for part in ("bin", "lib"):
+        (room / part).mkdir(parents=True)
+        for tool in (at / "toolchain" / part).iterdir():
+            (room / part / tool.name).symlink_to(tool)
+    clang = room / "bin/clang"
+    clang.unlink()
+    real = str(at / "toolchain/bin/clang")
+    clang.write_text(KEEPER.format(python=sys.executable, kept=str(kept), clang=real))
+    clang.chmod(0o755)
+    return room
+
+
+def highest(libraries, named):
+    """The libraries on which none of the others stands."""
+    used = {below for it in libraries for below in named[it]}
+    return [it for it in libraries if it not in used]
+
+
+def kept_module(at, room):
+    """What the backend hands to clang for the library."""
+    named = library.uses()
+    libraries = library.below("yembed", [], named)
+    if not all(map(library.is_left, libraries)):
+        for it in highest(libraries, named):
+            library.run(["rt", "lib"], library.TOP / "crates" / it)
+    kept, before = room / "kept", library.CRATE / "out/incremental"
+    tools = keeping_tools(at, room / "tools", kept)
+    more = ["--incremental", before] if before.is_dir() else []
+    library.build(at, libraries, named, room / "libyembed.a", tools, more)
+    if not kept.is_file():
+        raise Refused("the backend handed nothing to clang")
+    return kept
+
+
+def clang(at, *words):
+    """Runs the kit's clang."""
+    library.run([at / "toolchain/bin/clang", *words])
+
+
+def text_of(at, module, to):
+    """A module as LLVM's text, with nothing done to it."""
+    words = [f"--target={NATIVE}", "-S", "-emit-llvm", "-Xclang", "-disable-llvm-passes"]
+    clang(at, *words, "-x", "ir", module, "-o", to)
+    return to.read_text()
+
+
+def machine_of(at, room):
+    """The lines that say which machine LLVM's text is for, as clang has them for WebAssembly."""
+    empty, to = room / "empty.c", room / "empty.ll"
+    empty.write_text("")
+    clang(at, f"--target={TARGET}", "-S", "-emit-llvm", empty, "-o", to)
+    return {it[1]: it[0] for it in MACHINE.finditer(to.read_text())}
+
+
+def moved(text, machine):
+    """LLVM's text for another machine; one that calls for an instruction of its own is refused."""
+    if "@llvm.x86." in text:
+        raise Refused("an instruction of one machine alone")
+    found = {it[1] for it in MACHINE.finditer(text)}
+    if found != machine.keys():
+        raise Refused("a text that doesn't say its machine")
+    return ATTRIBUTES.sub("", MACHINE.sub(lambda it: machine[it[1]], text))
+
+
+def compiled(at, room, name, words):
+    """An object for WebAssembly."""
+    to = room / f"{name}.o"
+    clang(at, f"--target={TARGET}", "-mcpu=lime1", "-O2", "-c", *words, "-o", to)
+    return to
+
+
+def linked(at, room, objects, names):
+    """The module that exports some names."""
+    to = room / "wide.wasm"
+    words = ["-flavor", "wasm", "-mwasm64", "--no-entry", "--stack-first", "--gc-sections"]
+    words += ["--strip-all", "-z", f"stack-size={STACK}", *(f"--export={it}" for it in names)]
+    library.run([at / "toolchain/bin/ld.lld", *words, "-o", to, *objects])
+    return to.read_bytes()
+
+
+def made(room):
+    """The module of the playground, made in a folder."""
+    at = library.kit()
+    text = moved(text_of(at, kept_module(at, room), room / "native.ll"), machine_of(at, room))
+    (room / "wasm.ll").write_text(text)
+    plain = ["-ffreestanding", "-nostdinc", "-Wall", "-Wextra", "-Werror"]
+    objects = [compiled(at, room, it, [*plain, HERE / f"{it}.c"]) for it in C_FILES]
+    objects.append(compiled(at, room, "library", ["-x", "ir", room / "wasm.ll"]))
+    return narrowed(linked(at, room, objects, [*CALLS, *OF_THE_HEAP]))
+
+
+if not shutil.which("rt"):
+    sys.exit("there is no kit: CONTRIBUTING.md says what to install")
