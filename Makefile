@@ -15,19 +15,21 @@
 # make library    proves the crate yembed and leaves libsulderko.a and libsulderko.so.1 in bin/: the proved core for programs in C and Python
 # make wheel      makes a wheel of the module in Python in bin/, with the library in it; PYTHON names a Python that has build, setuptools and wheel
 # make library-test  runs that library: the scenarios of ystep through C and Python, every room, refused memory, threads; some minutes
-# make install    copies programs, manual pages, completions, drivers and books below PREFIX (/usr/local), and with DESTDIR below that; make build comes first. The library is copied where make library built it, but for NO_LIBRARY=1. The yacc that writes tables and no C goes to libexec/sulderko; TABLE_WRITER=1 puts it into bin. YACC_LINK=1 makes bin/yacc a symbolic link to ycc, for builds that call it so
+# make playground  makes bin/playground.html, one page for grammars and parses with the library in it, as a WebAssembly module, in a checkout whose crates were proved
+# make playground-test  runs it: the module by node on the scenarios of ystep and on 2,000 grammars at random, the page in a headless browser, which apt-get installs where it is missing
+# make install    copies programs, manual pages, completions, drivers and books below PREFIX (/usr/local), and with DESTDIR below that; make build comes first. The library and its module for Python, which goes to PYTHONDIR (lib/python3/dist-packages), are copied where make library built it, but for NO_LIBRARY=1, and the playground where make playground did. The yacc that writes tables and no C goes to libexec/sulderko; TABLE_WRITER=1 puts it into bin. YACC_LINK=1 makes bin/yacc a symbolic link to ycc, for builds that call it so
 # make uninstall  takes the same files away; a bin/yacc that isn't ours stays
 # make dist       packs what git has of this state into bin/; its name has what VERSION says
-# make deb        makes a Debian package in bin/ of the programs there; make deb-test tries it in a scratch root, with lintian, CMake and Meson (packaging/README.md says what both need)
+# make deb        makes Debian packages in bin/ of the programs and the library there; make deb-test tries them in a scratch root, with lintian, CMake and Meson (packaging/README.md says what both need)
 # make imports    imports grammars drawn at random, for a minute, and those of some source packages of Debian, by the programs that make build left, and compares their tables with bison's; FILES="a.y b.y" or PACKAGES="bash" names others. It takes bison and a network
 # make hostile    runs both programs, proved, between devices that fail and on hostile files and streams, and ydebug on full disks and pipes that nobody reads
-# make edits      tries every mutant that the prover must refuse, also those that the gate leaves out, on a copy; some 40 minutes
+# make edits      tries every mutant that the prover must refuse, also those that the gate leaves out, on a copy; two hours
 # make selftest   gives each check wrong answers, which it has to catch; under a minute
 # make try-install   tries make install, uninstall and dist in an empty folder, by the programs that make build left
 # make test       the gate: every proof from nothing, the mutants in must-fail, the tests, the stored runs, make selftest, the scenarios, make hostile, make refuse over three examples, the allocations of every session, the parsers, the drivers, each comparison for half a minute at most, and the pages where there is a browser
 #
 # python3 -m checks --help lists all checks as commands; python3 -m checks scenario NAME runs one scenario.
-.PHONY: demo examples scenarios accept build bench refuse debug page-test compare parsers features packages drivers library library-test wheel install uninstall dist deb deb-test imports hostile edits selftest try-install test
+.PHONY: demo examples scenarios accept build bench refuse debug page-test compare parsers features packages drivers library library-test playground playground-test wheel install uninstall dist deb deb-test imports hostile edits selftest try-install test
 
 # The checks, and where `make build` leaves a program. Without a path a check takes crates/NAME/out/NAME.
 checks := python3 -m checks
@@ -36,6 +38,7 @@ at = $(foreach name,$(1),$(name)=bin/$(name))
 PREFIX ?= /usr/local
 LIBDIR ?= lib
 ZSHDIR ?= share/zsh/site-functions
+PYTHONDIR ?= lib/python3/dist-packages
 VERSION := $(shell cat VERSION)
 there := $(DESTDIR)$(PREFIX)
 shared := share/ydriver
@@ -104,6 +107,12 @@ library:
 
 library-test:
 	@$(checks) library
+
+playground:
+	@python3 packaging/playground/build.py
+
+playground-test:
+	@$(checks) playground --install $(if $(wildcard bin/ystep),$(call at,ystep))
 
 # The wheel is made in a folder of its own, with the library beside the module.
 PYTHON ?= python3
@@ -178,9 +187,23 @@ define library_copies
 644 bin/sulderko.pc $(LIBDIR)/pkgconfig/sulderko.pc
 644 man/sulderko.3 share/man/man3/sulderko.3
 644 docs/LIBRARY.md $(books)/LIBRARY.md
+$(foreach it,$(notdir $(wildcard bindings/python/sulderko/*.py bindings/python/sulderko/py.typed)),$(module_copy))
+endef
+module_copy = 644 bindings/python/sulderko/$(it) $(PYTHONDIR)/sulderko/$(it)$(newline)
+define newline
+
+
 endef
 export library_copies
 has_library := test -z "$(NO_LIBRARY)" && test -f bin/libsulderko.a
+
+# The playground, where it was built.
+define page_copies
+644 bin/playground.html share/sulderko/playground.html
+644 docs/PLAYGROUND.md $(books)/PLAYGROUND.md
+644 docs/COURSE.md $(books)/COURSE.md
+endef
+export page_copies
 shared_link := $(there)/$(LIBDIR)/libsulderko.so
 
 # The program that writes tables and no C is on the path only where that is asked for.
@@ -198,19 +221,22 @@ install: bin/libydriver.a $(filled)
 	@test -z "$(TABLE_WRITER)" || test -z "$(YACC_LINK)" || { echo "TABLE_WRITER and YACC_LINK both want bin/yacc"; exit 1; }
 	@for name in ycc yacc ystep ydebug; do test -x bin/$$name || { echo "no bin/$$name: make build"; exit 1; }; done
 	@{ echo "$$copies"; echo "$$$(if $(TABLE_WRITER),on_path,aside)"; \
-	  ! { $(has_library); } || echo "$$library_copies"; } | while read -r mode from to; do \
+	  ! { $(has_library); } || echo "$$library_copies"; \
+	  ! test -f bin/playground.html || echo "$$page_copies"; } | while read -r mode from to; do \
+	  test -n "$$to" || continue; \
 	  mkdir -p "$(there)/$${to%/*}" && install -m "$$mode" "$$from" "$(there)/$$to" || exit 1; done
 	@! { $(has_library); } || ln -sf libsulderko.so.1 "$(shared_link)"
 	@test -z "$(YACC_LINK)" || ln -sf ycc "$(there)/bin/yacc"
 
 uninstall:
-	@{ echo "$$copies"; echo "$$aside"; echo "$$library_copies"; } | while read -r mode from to; do \
+	@{ echo "$$copies"; echo "$$aside"; echo "$$library_copies"; echo "$$page_copies"; } | while read -r mode from to; do \
+	  test -n "$$to" || continue; \
 	  rm -f "$(there)/$$to" || exit 1; done
 	@rm -f "$(shared_link)"
 	@test "$$(readlink "$(there)/bin/yacc")" != ycc || rm "$(there)/bin/yacc"
 	@echo "$$on_path" | while read -r mode from to; do \
 	  ! cmp -s "$$from" "$(there)/$$to" || rm "$(there)/$$to" || exit 1; done
-	@for folder in $(shared) $(books)/examples $(books) share/cmake/Sulderko libexec/sulderko; do \
+	@for folder in $(shared) $(books)/examples $(books) share/cmake/Sulderko libexec/sulderko share/sulderko $(PYTHONDIR)/sulderko; do \
 	  rmdir "$(there)/$$folder" 2> /dev/null || true; done
 
 dist:
@@ -221,7 +247,7 @@ deb:
 	@sh packaging/build.sh "$(VERSION)"
 
 deb-test: deb
-	@sh packaging/try.sh bin/sulderko_$(VERSION)_*.deb
+	@sh packaging/try.sh bin/*_$(VERSION)_*.deb
 
 imports:
 	@$(checks) cells $(call at,ydebug)

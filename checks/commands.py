@@ -36,6 +36,7 @@ GROUPS = {
     },
     "the library": {
         "library": "library.run",
+        "playground": "playground.run",
     },
     "bison, byacc, and packages that use them": {
         "features": "peers.features",
@@ -47,6 +48,7 @@ GROUPS = {
         "bench": "times.programs",
         "bench-parsers": "times.parsers",
         "bench-drivers": "times.drivers",
+        "bench-handles": "times.handles",
         "bench-grammar": "times.grammars",
         "sentence": "shared.sentences",
         "numbers": "times.traced",

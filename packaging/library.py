@@ -64,7 +64,7 @@ def is_left(name):
     return all(it.stat().st_mtime < made.stat().st_mtime for it in sources(name))
 
 
-def build(at, libraries, named):
+def build(at, libraries, named, archive=ARCHIVE, toolchain=None, more=()):
     """Proves the crate and builds its archive over libraries that are there."""
     used = {it for one in (*libraries, "yembed") for it in named[one]} | {"std"}
     found = {it: rlib(it) if it in named else at / f"rlibs/{it}.rlib" for it in sorted(used)}
@@ -72,9 +72,9 @@ def build(at, libraries, named):
     for name, path in found.items():
         words += ["--extern", f"{name}={path}", "-L", f"dependency={path.parent}"]
     words += ["--antt-project", at / "rattle/logic/antt-project.json"]
-    words += ["--logic-built", at / "logic_built", "--toolchain", at / "toolchain"]
+    words += ["--logic-built", at / "logic_built", "--toolchain", toolchain or at / "toolchain"]
     words += ["--crate-type", "staticlib", "--links", "yembed=", "--backend", "llvm"]
-    words += ["--jobs", os.environ.get("RT_JOBS", "2"), "-o", ARCHIVE]
+    words += ["--jobs", os.environ.get("RT_JOBS", "2"), *more, "-o", archive]
     run(words, CRATE)
 
 
@@ -114,4 +114,5 @@ def main():
     print(SHARED.relative_to(TOP))
 
 
-main()
+if __name__ == "__main__":
+    main()

@@ -1,16 +1,18 @@
 #!/bin/sh
-# Tries a Debian package: lintian finds no error and no warning; in an empty root it installs, its
-# programs run, its completions name the options of the programs, a project is built by CMake and by
-# Meson with what it installed, and nothing is left after its removal.
+# Tries Debian packages: lintian finds no error and no warning; in an empty root they install, the
+# programs run, the completions name the options of the programs, a project is built by CMake and by
+# Meson with what was installed, the library answers in C and in Python where it is there, and nothing
+# is left after their removal.
 #
-#     try.sh PACKAGE [ROOT]
+#     try.sh [-r ROOT] PACKAGE..
 #
-# ROOT is a Debian root (debootstrap makes one): the package is installed, run and removed there
-# too.
+# ROOT is a Debian root (debootstrap makes one): the package of the programs is installed, run and
+# removed there too.
 set -eu
 top=$(cd "$(dirname "$0")/.." && pwd)
-package=$(readlink -f "$1")
-debian=${2:-}
+debian=
+test "$1" != -r || { debian=$2; shift 2; }
+package=$(readlink -f "$(printf '%s\n' "$@" | grep /sulderko_)")
 room=$(mktemp -d)
 trap 'rm -rf "$room"' EXIT
 root=$room/root
@@ -75,6 +77,31 @@ built() {
   done
 }
 
+# A program in C by pkg-config, and the module of Python, over the library that was installed.
+linked() {
+  libraries=$(echo "$root"/usr/lib/*/libsulderko.so.1)
+  LD_LIBRARY_PATH=${libraries%/*}
+  export LD_LIBRARY_PATH
+  cat > "$room/judge.c" << 'END'
+#include <stdio.h>
+#include <sulderko.h>
+int main(void) {
+  sulderko_verdict it;
+  if (sulderko_judge("%token NUM %% list : | list NUM ;", 33, "NUM", 3, &it) != SULDERKO_DONE)
+    return 1;
+  return printf("%lu\n", (unsigned long)it.steps) < 0;
+}
+END
+  echo 4 > "$room/wanted"
+  step sh -c "cc -o '$room/judge' '$room/judge.c' $($PKG_CONFIG --cflags --libs sulderko)"
+  "$room/judge" > "$room/said" || fail "a program in C"
+  cmp -s "$room/said" "$room/wanted" || fail "a verdict in C"
+  code='import sulderko; print(sulderko.judge("%token NUM %% list : | list NUM ;", "NUM").steps)'
+  PYTHONPATH=$root/usr/lib/python3/dist-packages python3 -B -c "$code" > "$room/said" ||
+    fail "the module of Python"
+  cmp -s "$room/said" "$room/wanted" || fail "a verdict in Python"
+}
+
 # chroot begins in the root that it changes to, so these paths are below it.
 in_debian() {
   cp "$package" "$debian/package.deb"
@@ -89,14 +116,16 @@ in_debian() {
   test ! -e "$debian/usr/bin/ycc" || fail "left in $debian: ycc"
 }
 
-lintian --fail-on error,warning "$package" || fail "lintian"
+lintian --fail-on error,warning "$@" || fail "lintian"
 mkdir -p "$root/var/lib/dpkg/info" "$root/var/lib/dpkg/updates"
 : > "$root/var/lib/dpkg/status"
-dpkg_there -i "$package"
+dpkg_there -i "$@"
 run_there
 completed
 built
-dpkg_there --purge sulderko
+test ! -e "$root/usr/include/sulderko.h" || linked
+names=$(for it in "$@"; do dpkg-deb --field "$it" Package; done)
+dpkg_there --purge $names
 left=$(find "$root/usr" -not -type d 2> /dev/null || true)
 test -z "$left" || fail "left: $left"
 

@@ -113,13 +113,12 @@ class Conflicts(Planted):
         pairs += [("A parse comes to", "A parse over them misses"), ("shift, to", "reduce, to")]
         pairs += [("2 shift/reduce, 1 reduce", "1 shift/reduce, 2 reduce"), ("2 cells", "3 cells")]
         pairs += [("2 kinds", "1 kinds"), ("state 4 on E", "state 4 on B")]
-        pairs += [("rule 10 is never reduced", "rule 9 is never reduced"), ("warning: ", "")]
-        pairs = [it for it in pairs if it[0] != "warning: "]
+        pairs += [("rule 10 is never reduced", "rule 9 is never reduced")]
         pairs += [("state 1  rule 3", "state 2  rule 3"), ("state 2  rule 6", "state 2  rule 7")]
         pairs += [("    state 2  rule 7 (line 11)  q: . y B\n", ""), ("after rule 10", "after rule 9")]
         pairs += [("1 of 3 conflicts goes", "2 of 3 conflicts go"), ("A and B get", "A and E get")]
         pairs += [("between rule 9", "between rule 11"), ("1 of 3 conflicts st", "2 of 3 conflicts st")]
-        gone = report[: report.index("\nwarning")], report.replace("conflict 2", "conflict two")
+        gone = report[: report.index("\ngrammar.y:15:1: warning")], report.replace("conflict 2", "conflict two")
         lists = report.replace("  for rule 10 (line 15):\n  tokens  D A . B\n", "")
         self.each_caught(look, report, *changed(report, *pairs), *gone, lists, "")
 
@@ -225,16 +224,20 @@ class Documents(Planted):
         rule = {"rule": 3, "line": 4, "column": 3, "text": "s: s '+'"}
         look = lambda it: documents.wrong_columns(source, [{"rules": [rule | it]}])
         self.each_caught(look, {}, {"column": 2}, {"column": None}, {"line": 3})
-        look = lambda it: documents.wrong_heads([{"taken": "shift", "rules": [rule]}], [rule | it])
+        kind = {"taken": "shift", "rules": [rule]}
+        look = lambda it: documents.wrong_heads([kind], [rule | it])
         self.each_caught(look, {}, {"column": 4}, {"line": 3})
+        look = lambda it: documents.wrong_front(f"grammar.y:{it}: warning: conflict 1: ", kind)
+        self.each_caught(look, "4:3", "4:4", "3:3", "4")
 
     def test_blocks(self):
         """Further tokens of a block: each stands once, and differs from the first by its token."""
-        part = ["conflict 1: state 4 on A: shift, to state 3"]
+        part = ["grammar.y:3:1: warning: conflict 1: state 4 on A: shift, to state 3"]
         part += ["  The same on 3 other tokens, conflicts 2 to 3, 5:", "    '-' ' '", "    B", "  so"]
         others = [(2, "'-'"), (3, "' '"), (5, "B")]
         self.assertEqual(list(documents.others_in(part)), others)
-        look = lambda count: documents.wrong_places([part, ["conflict 4: "]], [{}] * count, "")
+        last = ["grammar.y:5:1: warning: conflict 4: "]
+        look = lambda count: documents.wrong_places([part, last], [{}] * count, "")
         self.each_caught(look, 5, 4, 6)
         head = {"state": 4, "taken": "shift", "rules": [], "more": 0, "token": "A"}
         changes = [{}, {"token": "B", "state": 5}, {"token": "B", "rules": [1]}]
@@ -264,7 +267,8 @@ class Hints(Planted):
 
     def judged(self, hint):
         """Whether each hint of a report holds."""
-        report = "conflict 1: state 4 on A: shift, to state 3\n  reduce  rule 1 (line 3)\n"
+        report = "grammar.y:3:1: warning: conflict 1: state 4 on A: shift, to state 3\n"
+        report += "  reduce  rule 1 (line 3)\n"
         report += f"  {hint}\n"
         return [holds for _, _, holds in hints.judged(self.draw, report)]
 
@@ -288,13 +292,13 @@ class Hints(Planted):
 
     def test_warnings(self):
         """A precedence that settles nothing, and one that does."""
-        warning = "warning: line 2: the precedence of A settles nothing"
+        warning = "grammar.y:2:7: warning: the precedence of A settles nothing"
         self.draw.levels, self.draw.precedences = [("left", ["B"])], {"B": (1, "left")}
         idle = warning.replace("of A", "of B")
         self.assertEqual([it[2] for it in hints.judged(self.draw, idle)], [True])
         self.draw.levels, self.draw.precedences = [("left", ["A"])], {"A": (1, "left")}
         self.assertEqual([it[2] for it in hints.judged(self.draw, warning)], [False])
-        missed = warning.replace("line 2", "line 1")
+        missed = warning.replace("y:2:", "y:1:")
         self.assertEqual([it[2] for it in hints.judged(self.draw, missed)], [False])
 
 

@@ -1,0 +1,249 @@
+"""Modules and pages of the playground that answer or show something else."""
+import copy
+import random
+from unittest import mock
+
+from checks.playground import course, module, page, run
+from checks.tests.fakes import Planted, changed, ended
+
+SHOW = "2 running\nstack: list NUM\nrest: ';'\ncounter: 0\nerrors: 0\n"
+FIRST = "1 running\nstack: list\nrest: NUM ';'\ncounter: 0\nerrors: 0\n"
+REPLIES = f"1 reduce 1\n{FIRST}2 shift NUM\n{SHOW}(1)\nNUM@1\n{SHOW}"
+REPORT = """Rules
+0 $accept: s $end
+1 s: ':' x
+2 x:
+Unreachable
+Tokens
+0 $end
+256 error
+58 ':'
+State 0
+  $accept: . s $end
+  s: . ':' x
+  ':' shift 1
+  s goto 2
+State 1
+  s: ':' . x
+  x: . on $end
+  $end conflicts 1 0
+  . reduce 2
+States 2
+Conflicts 1 0
+"""
+COUNTS = {"rules": 3, "tokens": 3, "states": 2, "items": 4, "cells": 3, "conflicts": 1}
+ANSWER = {
+    "status": 0, "replies": REPLIES, "fault": {"code": 0, "line": 0, "place": 0},
+    "verdict": {"outcome": 1, "steps": 5, "token": 0},
+    "read": {"place": 2, "stack": ["list", "NUM"], "rest": ["';'"], "lines": ["to 2"]},
+    "tokens": {"symbols": [2, 3]}, "places": [[0, 3], [4, 3]],
+    "report": REPORT, "inReport": COUNTS,
+}
+
+
+def others(answer, *paths):
+    """An answer with something else at each place."""
+    for path in paths:
+        other = copy.deepcopy(answer)
+        *inner, last = path
+        held = other
+        for part in inner:
+            held = held[part]
+        held[last] = [] if isinstance(held[last], list) else 99
+        yield other
+
+
+class TheModule(Planted):
+    """The checks of the module."""
+
+    def program(self, *replies):
+        """What runs give, one after another."""
+        return mock.patch.object(module, "ran", side_effect=[ended(*it) for it in replies])
+
+    def test_replies(self):
+        """Another byte, a fault in the place of replies, and another fault."""
+        right = ANSWER | {"status": 1, "fault": {"code": 7, "line": 3, "place": 0}}
+        pairs = [(ANSWER, (REPLIES,), 0), (right, ("", "ystep: G7 at line 3\n", 1), 0)]
+        texts = changed(REPLIES, ("NUM", "NIM"), ("2 shift", "3 shift"))
+        pairs += [(ANSWER, (it,), 1) for it in texts]
+        pairs += [(right, (REPLIES,), 1), (right, ("", "ystep: G7 at line 4\n", 1), 1),
+                  (ANSWER, ("", "ystep: G7 at line 3\n", 1), 1)]
+        for answer, replies, wrong in pairs:
+            with self.program(replies):
+                self.assertEqual(len(module.wrong_replies("ystep", self.room, answer, "")), wrong)
+
+    def test_refusals(self):
+        """Each kind of refusal in the words of ystep."""
+        told = {(1, 1, 0, 0): "G1", (2, 5, 0, 4): "K5 at token 4", (2, 3, 0, 0): "K3",
+                (3, 0, 0, 0): "no memory", (4, 0, 0, 0): "B1"}
+        for (status, code, line, place), wanted in told.items():
+            answer = {"status": status, "fault": {"code": code, "line": line, "place": place}}
+            self.assertEqual(module.fault_line(answer), wanted)
+
+    def test_verdicts(self):
+        """Another number of steps, another outcome."""
+        lines = "1 reduce 1\n2 shift NUM\n3 shift ';'\n4 reduce 2\n5 accept\n"
+        for text, wrong in (lines, 0), (lines.replace("5 acc", "6 acc"), 1), ("1 detect\n", 1):
+            with self.program((text,)):
+                self.assertEqual(len(module.wrong_verdict("ystep", self.room, ANSWER)), wrong)
+
+    def test_readings(self):
+        """Another place, stack or rest is read, or another number of tokens."""
+        wrong = others(ANSWER, ("read", "place"), ("read", "stack"), ("read", "rest"), ("places",))
+        self.each_caught(module.wrong_reading, ANSWER, *wrong)
+
+    def test_lines(self):
+        """The lines of a session lead elsewhere, by their position or by their trees."""
+        texts = [REPLIES, *changed(REPLIES, ("(1)\nNUM@1", "(1)\nNUM@2"))]
+        texts += [f"{REPLIES}3 shift ';'\n{SHOW.replace('2 run', '3 run')}"]
+        for text, wrong in zip(texts, (0, 1, 1)):
+            other = mock.Mock(ask=mock.Mock(return_value={"replies": text}))
+            self.assertEqual(len(module.wrong_lines(other, ("", ""), ANSWER)), wrong)
+
+    def test_reports(self):
+        """One thing more or less is read in a report."""
+        self.each_caught(module.wrong_report, ANSWER,
+                         *others(ANSWER, *(("inReport", it) for it in COUNTS)))
+
+    def test_heap(self):
+        """A heap that gives a block twice, too small ones, or more than there is."""
+        source = (run.SOURCES / "heap.c").read_text()
+        pairs = ("waiting[order] = found->next;", ";"), ("1ull << order <", "2ull << order <")
+        wrong = changed(source, *pairs, ("if (end > 1ull << MOST)", "if (0)"))
+        for text, failed in ((source, 0), *((it, 1) for it in wrong)):
+            file = self.room / "heap.c"
+            file.write_text(text)
+            self.assertEqual(self.counted(run.compare_heap, self.room, file)[1], failed)
+
+    def test_drawn(self):
+        """What is wrong with one grammar is counted, and ends the comparison."""
+        for lines, counted in ([], (5, 0)), (["wrong\n"], (0, 1)):
+            how = {"wrong_answer": lambda *_, it=lines: it, "Module": mock.MagicMock()}
+            with mock.patch.multiple(module, **how):
+                self.assertEqual(self.counted(module.compare_drawn, "", "", 5), counted)
+
+    def test_drawn_is_whole(self):
+        """A wrong answer of each kind is one of those that a grammar's comparison finds."""
+        for name in ("replies", "verdict", "reading", "lines", "report"):
+            kinds = {f"wrong_{it}": mock.Mock(return_value=[it] if it == name else [])
+                     for it in ("replies", "verdict", "reading", "lines", "report")}
+            other = mock.Mock(ask=mock.Mock(return_value=ANSWER))
+            with mock.patch.multiple(module, **kinds):
+                found = module.wrong_answer(other, "", self.room, random.Random(1))
+            self.assertEqual(found, [name])
+
+
+LESSON = """What is counted: 2 steps.
+
+**Questions**
+
+1. A?
+2. B?
+3. C?
+
+```file grammar.y
+%%
+```
+```file tokens
+NUM
+```
+```seen
+steps 2
+shifts 1
+reduce/reduce 0
+```
+```report
+State 0
+  $accept: . s $end
+..
+State 1
+```
+"""
+
+
+class TheCourse(Planted):
+    """The checks of the course."""
+
+    def counts(self, text, **other):
+        """How much passed and failed of a lesson, with something else in the answers."""
+        answer = {**ANSWER, "conflicts": [1, 0], **other}
+        answers = mock.Mock(ask=mock.Mock(return_value=answer))
+        return self.counted(course.compare_lessons, answers, [("1. One", text)])
+
+    def answer(self, **other):
+        """An answer to the one line that a lesson is asked."""
+        return {"replies": f"1 reduce 1\n2 shift NUM\n{SHOW}", **other}
+
+    def test_lessons(self):
+        """Another count, another line of a report, another order, a number that is nowhere."""
+        self.assertEqual(self.counts(LESSON, **self.answer()), (5, 0))
+        wrong = changed(LESSON, ("steps 2\n", "steps 3\n"), ("shifts 1", "shifts 2"),
+                        ("reduce/reduce 0", "reduce/reduce 1"), ("shifts", "shfits"),
+                        ("  $accept: . s", "  $accept: s ."), ("State 0\n", "State 1\n"),
+                        ("2 steps", "7 steps"), ("3. C?", "C?"), ("```seen", "```sene"))
+        for text in wrong:
+            self.assertGreater(self.counts(text, **self.answer())[1], 0, text)
+
+    def test_refused(self):
+        """A lesson whose files are refused, and a parse that comes to another end."""
+        self.assertGreater(self.counts(LESSON, **self.answer(status=1))[1], 0)
+        replies = f"1 reduce 1\n2 reduce 2\n{SHOW}"
+        self.assertGreater(self.counts(LESSON, **self.answer(replies=replies))[1], 0)
+
+    def test_files(self):
+        """A block has the files before it, and a later one of a name is the one that counts."""
+        text = LESSON + "```file tokens\nNUM NUM\n```\n```seen\nsteps 2\n```\n"
+        found = [it.files["tokens"] for it in course.blocks_of(text) if it.kind == "seen"]
+        self.assertEqual(found, ["NUM\n", "NUM NUM\n"])
+
+
+class ThePage(Planted):
+    """The checks of the page."""
+
+    def test_texts(self):
+        """Something from elsewhere, and a page that is too large."""
+        wrong = ('<script src="https://a.b/c.js">', 'fetch("x")', '<link rel="x" href="y.css">')
+        for text, failed in (("<p>", 0), *((it, 1) for it in wrong)):
+            self.assertEqual(self.counted(lambda count, it=text: run.look_at(count, it))[1], failed)
+        letters = random.Random(1).choices("abcdefghijklmnopqrstuvwxyz", k=2 * run.MOST)
+        large = self.counted(lambda count: run.look_at(count, "".join(letters)))
+        self.assertEqual(large[1], 1)
+
+    def seen(self, **other):
+        """What is seen, with something else in it."""
+        tree = [[0, "list", "1: list"], [0, "NUM", "1"]]
+        return {"place": 2, "stack": ["list", "NUM"], "rest": ["';'"], "states": [0, 1, 3],
+                "now": ["State 3"], "tree": tree, **other}
+
+    def test_positions(self):
+        """Each part of what is seen that is another one is caught."""
+        other = {"place": 3, "stack": ["list"], "rest": [], "states": [0, 1], "now": ["State 1"],
+                 "tree": [[0, "list", "1: list"]]}
+        answers = mock.Mock(ask=mock.Mock(return_value=ANSWER))
+        for part in [None, *other]:
+            seen = self.seen(**({part: other[part]} if part else {}))
+            shown = mock.Mock(**{"seen.return_value": seen, "texts.return_value": ("", "")})
+            made = self.counted(
+                lambda count, it=shown: page.compare(count, "it", it, answers, ["to 2"]))
+            self.assertEqual(made[1] > 0, part is not None, part)
+
+    def test_trees(self):
+        """The rows of a tree with literals and errors."""
+        rows = [[0, "2"], [1, "'('", "1"], [1, "3"], [1, "error"], [0, "' '", "7"]]
+        self.assertEqual(page.rows_of(["(2 '('@1 (3) error)", "' '@7"]), rows)
+
+    def test_programs(self):
+        """A program that is given goes before the proved one, by its whole path."""
+        (self.room / "ystep").write_text("")
+        self.assertEqual(run.program_of([f"ystep={self.room}/ystep"]), f"{self.room}/ystep")
+        self.assertIsNone(run.program_of(["ystep=is/nowhere"]))
+
+    def test_skipped(self):
+        """Without node, ystep and a browser lines say so."""
+        file = self.room / "page.html"
+        file.write_text("<p>")
+        none = mock.patch.object(run.shutil, "which", return_value=None)
+        with none, mock.patch.object(run.pages, "missing", return_value=["chromium"]):
+            _, said = self.said(run.main, f"--at={file}")
+        self.assertIn("\nskipped: there is no node\n", "\n" + said)
+        self.assertIn("\nskipped: no chromium", "\n" + said)
