@@ -312,7 +312,7 @@ def differences(grammar, text):
 
 # What is counted, so that a run shows that each of it was met.
 COUNTED = {
-    "blocks": ("\nconflict ",),
+    "blocks": (": warning: conflict ",),
     "with further tokens": OTHERS,
     "in several states": ("  The same in",),
     "lists": ("\n  tokens ",),

@@ -13,6 +13,7 @@ from checks.scenarios.cases import program_of, run, scenario, stored, wrong
 from checks.scenarios.folders import lay
 from checks.scenarios.proved import run_in, words_of
 from checks.shared.grammars import dense
+from checks.shared.spelling import WARNED
 
 SECONDS = 60
 # The most bytes of a file on a disk that counts as full.
@@ -215,7 +216,7 @@ def spent(count, programs):
     it = scenario(["ydebug", "conflicts", "dense.y"], inputs)
     text = run(it, programs)["stdout"].decode()
     kinds = re.match(r"dense.y: .* of (\d+) kinds\n", text)
-    told = len(re.findall(r"^conflict \d+: ", text, re.M))
+    told = len(re.findall(rf"^{WARNED}conflict \d+: ", text, re.M))
     told += sum(map(int, re.findall(r"^  (?:The same|Also) on (\d+) other tokens?,", text, re.M)))
     rest = r"^(\d+) kinds more; the search for their lists of tokens would take too long:$"
     more = re.search(rest, text, re.M)
