@@ -4,10 +4,17 @@ import base64
 import json
 import re
 import subprocess
+from contextlib import contextmanager
 from http.client import HTTPConnection
 
 KEYS = {"left": "\ue012", "right": "\ue014", "up": "\ue013", "down": "\ue015"}
 KEYS |= {"home": "\ue011", "end": "\ue010", "space": " ", "enter": "\ue007", "tab": "\ue004"}
+
+
+def keys_pressed(names):
+    """The actions by which keys are pressed, one after another."""
+    deeds = [{"type": deed, "value": KEYS[name]} for name in names for deed in ("keyDown", "keyUp")]
+    return [{"type": "key", "id": "keys", "actions": deeds}]
 
 
 class Fault(Exception):
@@ -88,11 +95,22 @@ class Browser:
         """What a script in the page gives."""
         return self.post("execute/sync", script=script, args=list(words))
 
+    @contextmanager
+    def inside(self, query):
+        """The document of a frame in the place of that of the page, for a while."""
+        self.post("frame", id=self.run("return document.querySelector(arguments[0])", query))
+        try:
+            yield
+        finally:
+            self.post("frame", id=None)
+
+    def insert(self, text):
+        """Types a text where the focus is."""
+        self.command("Input.insertText", text=text)
+
     def press(self, *names):
         """Presses keys, one after another, on what has the focus."""
-        deeds = [{"type": deed, "value": KEYS[name]}
-                 for name in names for deed in ("keyDown", "keyUp")]
-        self.post("actions", actions=[{"type": "key", "id": "keys", "actions": deeds}])
+        self.post("actions", actions=keys_pressed(names))
 
     def size(self, width, height):
         """Makes the window as large."""

@@ -42,7 +42,15 @@ class Module:
 
     def ask(self, grammar, tokens="", commands="", shown=False):
         """What is answered of texts; `shown` says that `show` stands after each command line."""
-        request = {"grammar": grammar, "tokens": tokens, "commands": commands, "shown": shown}
+        return self.answer({"grammar": grammar, "tokens": tokens, "commands": commands,
+                            "shown": shown})
+
+    def told(self, words, files, lines=""):
+        """What ydebug says by its arguments, over files and a standard input, and its status."""
+        return self.answer({"words": words, "files": files, "input": lines})
+
+    def answer(self, request):
+        """The answer to a request."""
         print(json.dumps(request), file=self.process.stdin, flush=True)
         line = self.process.stdout.readline()
         if not line:

@@ -1,8 +1,11 @@
 """The page of the playground in a headless browser: what a person does there, and what is shown."""
+import base64
+import json
 import re
 import time
 
 from checks.pages.browser import Browser, Driver
+from checks.pages.firefox import Firefox
 from checks.playground.course import blocks_of, lessons_of
 from checks.playground.module import Module, parts_of, verdict_line, with_show
 from checks.shared.grammars import dense
@@ -73,13 +76,13 @@ class Page:
         self.browser.run("""const [name, at] = arguments, it = document.getElementById(name);
             it.focus();
             it.setSelectionRange(at ?? it.value.length, at ?? it.value.length);""", name, at)
-        self.browser.command("Input.insertText", text=text)
+        self.browser.insert(text)
         self.wait()
 
     def write(self, name, text):
         """Puts a text in the place of what stands in a field."""
         self.browser.run("document.getElementById(arguments[0]).select()", name)
-        self.browser.command("Input.insertText", text=text)
+        self.browser.insert(text)
         self.wait()
 
     def choose(self, name):
@@ -99,6 +102,11 @@ class Page:
         self.browser.run(DROP, query, files)
         time.sleep(0.1)
         self.wait()
+
+    def all(self, query):
+        """The texts of all that a query finds."""
+        return self.browser.run("return [...document.querySelectorAll(arguments[0])]"
+                                ".map((it) => it.textContent)", query)
 
     def seen(self):
         """What is seen of the parse."""
@@ -171,25 +179,112 @@ def step_through(count, page, module, name):
     compare(count, f"{name}, back", page, module, [f"to {max(last - 2, 0)}"])
 
 
+def blocks_of(report):
+    """The blocks of a report on conflicts: the lines that begin with a place, and those after."""
+    return re.split(r"\n(?=grammar\.y:\d)", report.replace("\n\n", "\n").rstrip("\n"))
+
+
+def card_of(block):
+    """A block as its card has it: without its place and its indent."""
+    first, *rest = block.split("\n")
+    place, said = re.fullmatch(r"grammar\.y:(\d+(?::\d+)?): warning: (.*)", first).groups()
+    place = place if ":" in place else f"line {place}"
+    return "".join([f"{said} {place}", "\n".join(re.sub("^  ", "", it) for it in rest)])
+
+
 def try_conflicts(count, page, module):
-    """Conflicts and their states, as the report has them."""
+    """Conflicts as `ydebug conflicts` tells them; one goes by its hint."""
     page.choose("statements")
-    report = module.ask(*page.texts())["report"]
-    states = re.findall(r"^State (\d+)$", report, re.M)
-    shown = page.browser.run("return [...document.querySelectorAll('#states h3')].map("
-                             "(it) => it.textContent)")
+    states = re.findall(r"^State (\d+)$", module.ask(*page.texts())["report"], re.M)
+    shown = page.all("#states h3")
     count.hold("all states", shown == [f"State {it}" for it in states], shown)
-    conflicts = page.browser.run("return [...document.querySelectorAll('#conflicts .card')].map("
-                                 "(it) => it.textContent)")
-    found = re.findall(r"State (\d+)\n((?:  .*\n)*?)  (\S+) conflicts (\d+) (\d+)\n", report)
-    count.hold("a conflict", len(conflicts) == len(found) == 1, conflicts)
-    state, _, token, *_ = found[0]
-    head = f"State {state} on {token}1 shift/reduce"
-    count.hold("its cell", conflicts[0].startswith(head), conflicts)
-    rivals = conflicts[0].count("statement: IF '(' expression ')' statement •")
-    count.hold("its rivals", rivals == 2, conflicts)
-    count.hold("their counts", page.text("counts") == "Conflicts: 1 shift/reduce, 0 reduce/reduce.",
-               page.text("counts"))
+    grammar = page.value("grammar")
+    said = module.told(["conflicts", "grammar.y"], {"grammar.y": grammar})["out"]
+    head, *blocks = blocks_of(said)
+    cards = page.all("#conflicts .card")
+    count.hold("conflicts", cards == [card_of(it) for it in blocks] and len(cards) == 1, cards)
+    causes = page.text("causes")
+    count.hold("their counts", causes == head.replace("grammar.y: ", ""), causes)
+    count.hold("its hint", "name ELSE and ')' on two lines" in cards[0], cards)
+    page.type("grammar", "%nonassoc ')'\n%nonassoc ELSE\n", 0)
+    count.hold("the hint followed", page.text("counts") == "No conflicts.", page.text("counts"))
+    count.hold("no conflict is left", page.all("#conflicts .card") == [], page.all("#conflicts"))
+    page.write("grammar", grammar)
+    counts = page.text("counts")
+    count.hold("its return", counts == "Conflicts: 1 shift/reduce, 0 reduce/reduce.", counts)
+
+
+def try_reasons(count, page, module):
+    """Why cells say what they say: of the state on top at the token ahead, and of another one."""
+    page.choose("statements")
+    page.press("home", "right")
+    grammar, rest = page.value("grammar"), page.seen()["rest"]
+    asks = ("why-here", page.seen()["states"][-1], rest[0]), ("why-there", 33, "ELSE")
+    page.browser.run("[...document.querySelectorAll('#state-33 .why')]"
+                     ".find((it) => it.textContent === 'ELSE').click()")
+    page.wait()
+    for name, state, token in asks:
+        files = {"grammar.y": grammar, "none": ""}
+        said = module.told(["grammar.y", "none"], files, f"why {state} {token}\n")["out"]
+        shown = page.text(name)
+        count.hold(f"{name}: {state} on {token}", shown == said.rstrip("\n"), f"{shown}\n{said}")
+        count.hold(f"{name}: its cell", shown.startswith(f"state {state} on {token}: "), shown)
+
+
+def try_texts(count, page, module):
+    """A text with its SPEC: a mistake at its place, then without it, and what is no token."""
+    page.choose("queries: comma.sql")
+    texts = {it: page.value(it) for it in ("grammar", "tokens", "spec")}
+    files = {"grammar.y": texts["grammar"], "input": texts["tokens"], "spec": texts["spec"]}
+    words = ["grammar.y", "--lex", "spec", "input"]
+    said = module.told(["check", *words], files)["out"]
+    line, column = map(int, re.match(r"input:(\d+):(\d+): unexpected FROM", said).groups())
+    shown = page.text("check")
+    count.hold("what was expected", shown == said.removeprefix("input: ").rstrip("\n"), shown)
+    top = page.browser.run("return document.querySelector('#tokens-editor .bubble').style.top")
+    count.hold("the place of the mistake", top == f"{20 * line}px", f"{top} {line}:{column}")
+    count.hold("the verdict of a text", page.text("verdict").startswith("Rejected at token "),
+               page.text("verdict"))
+    tokens = module.told(["tokens", *words], files)["out"].split()
+    page.press("home")
+    count.hold("its tokens", page.seen()["rest"] == tokens, f"{page.seen()['rest']}\n{tokens}")
+    page.write("tokens", "SELECT ? FROM x;")
+    said = page.text("tokens-fault")
+    count.hold("no token", said.startswith("input:1:8: no line of the SPEC matches here"), said)
+    page.choose("statements")
+    page.browser.run("document.getElementById('looks').open = true")
+    page.click("sketch")
+    sketch = module.told(["lex-spec", "grammar.y"], {"grammar.y": page.value("grammar")})["out"]
+    count.hold("a sketch", page.value("spec") == sketch, page.value("spec"))
+    page.click("plain")
+    count.hold("no SPEC", page.value("spec") == "", page.value("spec"))
+
+
+def try_page(count, page, module):
+    """The page of `ydebug page` in its frame, and a command line of `ydebug`."""
+    page.choose("calculator")
+    page.browser.run("document.getElementById('paged').open = true")
+    time.sleep(0.05)
+    page.wait()
+    grammar, tokens = page.texts()
+    files = {"grammar.y": grammar, "input": tokens}
+    made = module.told(["page", "grammar.y", "input", "--conflicts"], files)["out"]
+    data = re.search(r'<script[^>]* id="data"[^>]*>(.*?)</script>', made, re.S)[1]
+    with page.browser.inside("#page"):
+        count.hold("the page of the parse", page.text("data") == data, page.text("data"))
+        title = page.text("title")
+        count.hold("its title", title == "input, parsed by grammar.y", title)
+        page.browser.run("document.getElementById('on').click()")
+        place = page.text("place")
+        count.hold("a step in it", place.startswith("1 of "), place)
+    page.browser.run("document.getElementById('paged').open = false")
+    page.browser.run("document.getElementById('asked').open = true")
+    page.write("told-line", "errors grammar.y")
+    page.browser.run("document.getElementById('words').requestSubmit()")
+    page.wait()
+    said = module.told(["errors", "grammar.y"], files)
+    both = "\n".join(filter(None, (said["out"], said["errors"]))).rstrip()
+    count.hold("a line of ydebug", page.text("told") == both and both, page.text("told"))
 
 
 def try_faults(count, page, module):
@@ -271,10 +366,9 @@ def try_address(count, page, module, url):
     other = Page(page.browser, url + address)
     count.hold("the same texts", other.texts() == texts, other.texts())
     count.hold("the same position", other.seen() == seen, other.seen())
-    plain = page.browser.run("""const [grammar] = arguments, tokens = "NUM ';'", lines = ["to 1"];
-        const text = JSON.stringify({ grammar, tokens, lines });
-        return "#j" + toLetters(new TextEncoder().encode(text));""", NUM)
-    page.browser.run("location.hash = arguments[0]", plain)
+    values = json.dumps({"grammar": NUM, "tokens": "NUM ';'", "lines": ["to 1"]})
+    letters = base64.urlsafe_b64encode(values.encode()).decode().rstrip("=")
+    page.browser.run("location.hash = arguments[0]", f"#j{letters}")
     time.sleep(0.1)
     page.wait()
     count.hold("a plain address", page.texts() == (NUM, "NUM ';'"), page.texts())
@@ -294,7 +388,7 @@ def try_drops(count, page):
 def try_breaking(count, page):
     """An answer that takes long is broken off, and the next change is answered."""
     page.browser.run("document.getElementById('grammar').select()")
-    page.browser.command("Input.insertText", text=dense(240, 7))
+    page.browser.insert(dense(240, 7))
     page.wait("return !document.getElementById('break').hidden")
     page.click("break")
     count.hold("broken off", page.text("verdict").startswith("Broken off."), page.text("verdict"))
@@ -344,6 +438,9 @@ def try_all(count, browser, url, module):
         step_through(count, page, module, name)
     try_lessons(count, page, module)
     try_conflicts(count, page, module)
+    try_reasons(count, page, module)
+    try_texts(count, page, module)
+    try_page(count, page, module)
     try_faults(count, page, module)
     try_edits(count, page, module)
     try_unwinding(count, page, module)
@@ -358,10 +455,17 @@ def try_all(count, browser, url, module):
 
 
 def compare_page(page, shots, count):
-    """The page, by all that a person does, and as pictures."""
+    """The page in Chromium, by all that a person does, and as pictures."""
     url = page.absolute().as_uri()
     shots.mkdir(parents=True, exist_ok=True)
     with Driver() as driver:
         with Module(page) as module, Browser(driver, 1400, 900) as browser:
             try_all(count, browser, url, module)
         look(count, driver, url, shots)
+
+
+def compare_in_firefox(page, shots, count):
+    """The same in Firefox."""
+    with Module(page) as module, Firefox(1400, 900) as browser:
+        try_all(count, browser, page.absolute().as_uri(), module)
+        browser.shot(shots / "playground-firefox.png")

@@ -22,10 +22,11 @@ import tempfile
 from pathlib import Path
 
 from checks.library.run import compare_scenarios, count, stored
+from checks.pages import firefox
 from checks.pages import test as pages
 from checks.playground.course import compare_course
 from checks.playground.module import compare_drawn, compare_reports
-from checks.playground.page import compare_page
+from checks.playground.page import compare_in_firefox, compare_page
 from checks.scenarios.folders import Fault
 from checks.shared.arguments import asked
 from checks.shared.libraries import compiler
@@ -103,6 +104,10 @@ def browse(page, given, tally):
         print(f"skipped: no {' and no '.join(missing)}: the page isn't opened", flush=True)
         return
     compare_page(page, Path(given.shots), tally)
+    if shutil.which(firefox.PROGRAM) or (given.install and pages.install([firefox.PROGRAM])):
+        compare_in_firefox(page, Path(given.shots), tally)
+    else:
+        print(f"skipped: no {firefox.PROGRAM}: the page isn't opened in Firefox", flush=True)
 
 
 def main(words):

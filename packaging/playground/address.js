@@ -31,6 +31,7 @@ async function valuesOf(address) {
       : await through(new DecompressionStream("deflate"), bytes);
     const values = JSON.parse(new TextDecoder().decode(plain));
     const fits = ["grammar", "tokens"].every((it) => typeof values[it] === "string")
+      && ["string", "undefined"].includes(typeof values.spec)
       && Array.isArray(values.lines) && values.lines.every((it) => typeof it === "string");
     return fits ? values : null;
   } catch {

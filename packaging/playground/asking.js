@@ -1,5 +1,6 @@
-/* The worker that runs the module: it is asked one thing at a time, the newest next, and is ended
-   where an answer takes long and something else is asked, or where its answer isn't wanted. */
+/* A worker that runs the module: it is asked one thing at a time, the newest next, and is ended
+   where an answer takes long and something else is asked, or where its answer isn't wanted. An
+   answer may come in parts. */
 
 const PATIENCE = 700;
 
@@ -47,8 +48,10 @@ class Asker {
   take(answer) {
     if (answer.id !== this.count || !this.asked) return;
     const request = this.asked;
-    this.asked = null;
-    this.busy(false);
+    if (!answer.part) {
+      this.asked = null;
+      this.busy(false);
+    }
     this.answered(answer, request);
     if (this.waits && !this.asked) this.send();
   }

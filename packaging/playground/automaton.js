@@ -1,4 +1,4 @@
-/* The automaton and its conflicts, from the report on a grammar. */
+/* The automaton, from the report on a grammar. */
 
 const STATES_SHOWN = 120;
 
@@ -16,9 +16,17 @@ function itemRow(item, rules, name) {
   return row;
 }
 
-/* A cell: a token or a nonterminal, and what is done in it. */
-function cellRow({ name, deed, number }, hot) {
-  const row = make("p", { class: hot ? "item hot" : "item" }, `${name} ${deed} `);
+/* A button that asks why the cell of a state and a token says what it says. */
+function whyButton(state, name) {
+  const button = make("button", { type: "button", class: "why", title: "Why?" }, name);
+  button.onclick = () => askWhy(state, name);
+  return button;
+}
+
+/* A cell of a state: a token or a nonterminal, and what is done in it. */
+function cellRow(state, { name, deed, number }, hot) {
+  const row = make("p", { class: hot ? "item hot" : "item" });
+  row.append(deed === "goto" || name === "." ? name : whyButton(state, name), ` ${deed} `);
   if (deed === "reduce") row.append(`${number}`);
   else if (deed !== "accept") row.append(stateLink(number));
   return row;
@@ -38,34 +46,12 @@ function stateCard(state, rules, name) {
   card.append(make("h3", { class: warned }, `State ${state.number}`));
   card.append(...state.items.map((item) => itemRow(item, rules, name)));
   const cells = make("div", { class: "cells" });
-  cells.append(...state.cells.map((cell) => cellRow(cell, cell === hot)));
-  cells.append(...state.conflicts.map(({ name: token, counts }) =>
-    make("p", { class: "item warned" }, `${token} conflicts: ${counted(counts)}`)));
+  cells.append(...state.cells.map((cell) => cellRow(state.number, cell, cell === hot)));
+  cells.append(...state.conflicts.map(({ name: token, counts }) => make("p",
+    { class: "item warned" }, whyButton(state.number, token), ` conflicts: ${counted(counts)}`)));
   card.append(cells);
   card.classList.toggle("now", Boolean(name));
   return card;
-}
-
-/* A conflict: where it is, its rivals, and what is done. */
-function conflictCard(state, { name, counts }, rules) {
-  const card = make("li", { class: "card" }), taken = cellFor(state, name);
-  const head = make("h3", {}, "State ", stateLink(state.number), ` on ${name}`);
-  const rivals = state.items.map((item) => itemRow(item, rules, name))
-    .filter((row) => row.classList.contains("hot"));
-  rivals.forEach((row) => row.classList.remove("hot"));
-  card.append(head, make("p", { class: "warned" }, counted(counts)), ...rivals);
-  const cells = make("div", { class: "cells" }, faint("taken: "));
-  if (taken) cells.append(cellRow(taken, true));
-  card.append(cells);
-  return card;
-}
-
-/* The conflicts of all states. */
-function showConflicts(report, rules) {
-  const found = report.states.flatMap((state) => state.conflicts.map((it) => [state, it]));
-  const cards = some(found, ([state, it]) => conflictCard(state, it, rules), STATES_SHOWN);
-  if (!found.length) cards.push(make("li", { class: "faint" }, "No cell counts a conflict."));
-  at("conflicts").replaceChildren(...cards);
 }
 
 /* So many states around one, or those with conflicts. */

@@ -93,6 +93,27 @@ class Editor {
     return { line, column };
   }
 
+  /* The place in the text of a line and a column in bytes, both counted from 1. */
+  placeOf(line, column) {
+    const lines = this.text.split("\n"), coder = new TextEncoder();
+    const before = coder.encode(lines[line - 1] || "").subarray(0, column - 1);
+    return lines.slice(0, line - 1).reduce((sum, it) => sum + it.length + 1, 0)
+      + new TextDecoder().decode(before).length;
+  }
+
+  /* Goes to a line and a column. */
+  select(line, column) {
+    const place = this.placeOf(line, column);
+    this.area.focus();
+    this.area.setSelectionRange(place, place + 1);
+    this.area.scrollTop = Math.max(0, (line - 4) * ROW);
+  }
+
+  /* Shows a fault at a line and a column. */
+  faultAt(line, column, said) {
+    this.fault(this.placeOf(line, column), 1, said);
+  }
+
   /* Shows a fault at a place: its line, the place, and below it what is said. */
   fault(place, length, said) {
     this.clear();

@@ -4,7 +4,7 @@
    page, and in its checks. */
 
 const STATUS = { done: 0, badGrammar: 1, badTokens: 2, noMemory: 3, tooManySets: 4 };
-const FIRST_ROOM = 1 << 16, WORD = 8;
+const FIRST_ROOM = 1 << 16, OUT_ROOM = 1 << 20, WORD = 8;
 
 class NoMemory extends Error {}
 
@@ -139,6 +139,30 @@ class Library {
     }));
   }
 
+  /* What ydebug writes by its arguments, over files and a standard input, and its status. */
+  ydebug(words, files, input) {
+    const texts = [new TextEncoder().encode(ended(words)), packed(files), input];
+    return attempted(() => {
+      for (let rooms = [OUT_ROOM, FIRST_ROOM]; ; ) {
+        const { lengths, ...answer } = this.saying(texts, rooms);
+        if (lengths.every((length, index) => length <= rooms[index])) return answer;
+        rooms = lengths;
+      }
+    });
+  }
+
+  /* What it writes into so much room for its output and its errors, and how long all of it is. */
+  saying(texts, rooms) {
+    return this.memory.held([...rooms, WORD, WORD], (out, errors, ...lengths) => {
+      const words = [out, BigInt(rooms[0]), lengths[0], errors, BigInt(rooms[1]), lengths[1]];
+      const status = this.called("ydebug", texts, words);
+      const found = lengths.map((at) => this.memory.word(at));
+      const [said, wrong] = [out, errors].map((at, index) =>
+        this.memory.taken(at, Math.min(found[index], rooms[index])));
+      return { status, out: said, errors: wrong, lengths: found };
+    });
+  }
+
   fault(grammar, tokens) {
     const { memory } = this;
     return this.told("fault", [grammar, tokens], 4, (at) => ({
@@ -146,6 +170,19 @@ class Library {
       place: memory.word(at, 3),
     }));
   }
+}
+
+/* Texts, each with a byte of 0 after it. */
+const ended = (texts) => texts.map((text) => `${text}\0`).join("");
+
+/* Files as `sulderko_ydebug` takes them: each with its name and its length before its bytes. */
+function packed(files) {
+  const coder = new TextEncoder();
+  const parts = Object.entries(files).flatMap(([name, bytes]) =>
+    [coder.encode(ended([name, bytes.length])), bytes]);
+  const all = new Uint8Array(parts.reduce((sum, it) => sum + it.length, 0));
+  parts.reduce((at, it) => (all.set(it, at), at + it.length), 0);
+  return all;
 }
 
 /* The library of a module's bytes. */

@@ -5,11 +5,15 @@ const SENT = /^(?:to \d+|run \d+|insert [^\n]*|drop)$/, START = "to 0", END = `r
 const MOST_FILE = 1 << 24, MOST_UNWOUND = 2000, LATER = 400;
 const REFUSALS = ["bad token", "no token", "halted", "limit", "no memory", "not accepted",
   "had error", "unknown command"];
-let given, grammar, tokens, asker, addressTimer;
+let given, grammar, tokens, spec, asker, addressTimer;
 /* The lines by which the session comes to where it stands, the lines that wait to be sent, the
-   report on the last grammar without a fault, and what was shown last. */
-const page = { lines: [END], moves: [], report: null, rules: new Set(), verdict: null,
-  shown: null };
+   report on the last grammar without a fault, the tokens of the input, what was shown last, and
+   the state and the token at which the parse stands. */
+const page = { lines: [END], moves: [], report: null, rules: new Set(), verdict: null, words: "",
+  shown: null, here: null };
+
+/* The texts that stand in the fields. */
+const textsNow = () => ({ grammar: grammar.text, input: tokens.text, spec: spec.text });
 
 /* Each line with `show` after it, so that its reply is known from the next one's. */
 const withShow = (line) => (line === "show" ? [line] : [line, "show"]);
@@ -22,8 +26,7 @@ function request() {
   const asked = [...lines, ...moves, "tree", `run ${AHEAD}`].flatMap(withShow);
   if (at("unwinding").open && !isLong()) asked.push("unwind");
   const commands = asked.map((line) => `${line}\n`).join("");
-  const texts = { grammar: grammar.text, tokens: tokens.text, commands };
-  return { ...texts, lines: [...lines], moves: [...moves] };
+  return { ...textsNow(), commands, lines: [...lines], moves: [...moves] };
 }
 
 function move(line) {
@@ -46,8 +49,10 @@ function showGrammarFault({ code, line, before }) {
   grammar.fault(before, word.trim().length || 1, `${name}: ${what}`);
 }
 
-/* Marks a token of the input by its place, counted from 1; the end comes after the last one. */
+/* Marks a token of the input by its place, counted from 1; the end comes after the last one. In a
+   text `ydebug check` says where it is. */
 function markToken(place, said) {
+  if (spec.text.trim()) return;
   const found = placesOf(tokens.text)[place - 1];
   if (found) tokens.fault(...found, said);
   else tokens.fault(tokens.text.trimEnd().length, 1, said);
@@ -64,12 +69,23 @@ const REFUSED = { 1: "The grammar has a fault.", 2: "The input has a fault.",
 
 function showFault(fault) {
   for (const id of ["grammar-fault", "tokens-fault"]) at(id).textContent = "";
-  grammar.clear();
-  tokens.clear();
-  grammar.number();
-  tokens.number();
+  for (const editor of [grammar, tokens, spec]) {
+    editor.clear();
+    editor.number();
+  }
   if (fault.status === 1) showGrammarFault(fault);
   if (fault.status === 2) showTokensFault(fault);
+}
+
+/* Why a text has no tokens: its own mistake, or one of its SPEC. */
+function showUncut(said) {
+  page.shown = page.here = null;
+  say("The text has no tokens.", "bad");
+  at("tokens-fault").textContent = said.trimEnd();
+  const [, file, line, column, what] =
+    /^(input|spec):(\d+):(?:(\d+):)? (.*)$/m.exec(said) || [];
+  const editor = { input: tokens, spec }[file];
+  if (editor) editor.faultAt(Number(line), Number(column || 1), what);
 }
 
 function say(text, kind) {
@@ -85,7 +101,7 @@ function showVerdict(verdict) {
   if (status) return say(REFUSED[status], "bad");
   if (outcome === 1) return say(`Accepted: a sentence, in ${steps} steps.`, "good");
   if (outcome === 3) return say("Neither accepted nor rejected within 1,000,000 steps.", "bad");
-  const name = placesOf(tokens.text)[token - 1] ? `token ${token}` : "the end of the input";
+  const name = placesOf(page.words)[token - 1] ? `token ${token}` : "the end of the input";
   markToken(token, "it can't come here");
   return say(`Rejected at ${name}. ${EXACT[exact]}`, "bad");
 }
@@ -99,7 +115,6 @@ function takeReport({ status, text, shiftReduce, reduceReduce }) {
   at("names").replaceChildren(...page.report.tokens.slice(2).map(({ text: name }) =>
     make("option", { value: name })));
   at("report").textContent = text;
-  showConflicts(page.report, page.rules);
 }
 
 /* The state around which states are shown, and what is marked. */
@@ -150,6 +165,8 @@ function showSession(text, { lines, moves }) {
   if (moves.length) page.lines = condensed(steps, ENDED.includes(shown.mode));
   shown.top = showStack(shown, report);
   page.shown = shown;
+  page.here = shown.mode === "running" ? [shown.top, shown.rest[0] || "$end"] : null;
+  if (!page.here) at("why-here").textContent = "";
   showRest(shown);
   showSteps(shown.place, steps, later, report, (place) => move(`to ${place}`));
   showTree(tree.said, report);
@@ -160,6 +177,7 @@ function showSession(text, { lines, moves }) {
 
 /* Marks the token ahead in the input, where no edit changed which that is. */
 function markAhead(steps, { rest }) {
+  if (spec.text.trim()) return;
   const places = placesOf(tokens.text);
   if (steps.some((it) => EDIT.test(it)) || !rest.length) return;
   const [start, length] = places[places.length - rest.length] || [];
@@ -176,28 +194,31 @@ function ended(why) {
 function answered(answer, asked) {
   if (answer.broken) return ended(answer.broken);
   if (answer.report) takeReport(answer.report);
-  if (asked.grammar !== grammar.text || asked.tokens !== tokens.text) return undefined;
-  const { fault, verdict, session } = answer;
+  const texts = textsNow();
+  if (Object.keys(texts).some((it) => asked[it] !== texts[it])) return undefined;
+  const { fault, verdict, session, uncut } = answer;
   page.moves = page.moves.slice(asked.moves.length);
   at("spent").textContent = `${answer.spent.toFixed(1)} ms`;
   at("parse").classList.toggle("stale", !session || session.status !== 0);
   for (const id of ["states", "conflicts", "counts"])
     at(id).classList.toggle("stale", ![0, 2].includes(fault.status));
   showFault(fault);
-  page.verdict = verdict || null;
+  Object.assign(page, { verdict: verdict || null, words: answer.tokens || "" });
   if (verdict) showVerdict(verdict);
-  else say(REFUSED[fault.status], "bad");
+  else if (uncut === undefined) say(REFUSED[fault.status], "bad");
+  else showUncut(uncut);
   if (session && session.status === 0) showSession(session.text, asked);
   else if (fault.status === 2) page.shown = null;
   drawStates(page.shown && page.shown.top !== null ? page.shown.top : Number(at("state").value));
+  askToTell();
   return keepAddress();
 }
 
 /* The address holds what is shown, where that isn't too long for one. */
 async function setAddress() {
   clearTimeout(addressTimer);
-  const address = await addressOf(
-    { grammar: grammar.text, tokens: tokens.text, lines: page.lines });
+  const { input, ...texts } = textsNow();
+  const address = await addressOf({ ...texts, tokens: input, lines: page.lines });
   const fits = address.length <= LONGEST_ADDRESS;
   history.replaceState(null, "", fits ? address : "#");
   at("shared").textContent = fits ? "" : "The texts are too long for an address.";
@@ -222,13 +243,23 @@ async function share() {
 /* The texts are a person's own from the first key on. */
 function typed() {
   at("examples").value = "";
+  nameInput();
   asker.ask();
+}
+
+/* What the input is called: a text where there is a SPEC. */
+function nameInput() {
+  const isText = Boolean(spec.text.trim());
+  at("tokens-name").textContent = isText ? "Input, as a text" : "Input, as tokens";
+  if (isText) at("looks").open = true;
 }
 
 /* Shows texts, and the parse where some lines lead. */
 function open(values) {
   grammar.text = values.grammar;
   tokens.text = values.tokens;
+  spec.text = values.spec || "";
+  nameInput();
   page.lines = values.lines.filter((line) => SENT.test(line));
   if (!page.lines.length) page.lines = [END];
   page.moves = [];
@@ -236,19 +267,26 @@ function open(values) {
 }
 
 function openExample() {
-  const all = [...given.examples, ...given.lessons];
+  const all = [...given.examples, ...given.texts, ...given.lessons];
   const example = all.find((it) => it.name === at("examples").value);
   if (example) open({ ...example, lines: [END] });
+}
+
+/* The field that a file is for, by its name. */
+function fieldFor(name) {
+  if (/\.(y|yy|yacc|ypp|y\+\+)$/.test(name)) return "grammar";
+  return /\.(lex|spec)$/.test(name) ? "spec" : "tokens";
 }
 
 /* Takes files in place of texts: on a field its text, and else by their names. */
 async function take(files, field) {
   for (const file of files) {
     if (file.size > MOST_FILE) return say(`${file.name} is too long.`, "bad");
-    const isGrammar = field ? field === "grammar" : /\.(y|yy|yacc|ypp|y\+\+)$/.test(file.name);
-    (isGrammar ? grammar : tokens).text = await file.text();
+    const editors = { grammar, tokens, spec };
+    editors[field || fieldFor(file.name)].text = await file.text();
     at("examples").value = "";
   }
+  nameInput();
   Object.assign(page, { lines: [END], moves: [] });
   return asker.ask();
 }
@@ -284,13 +322,21 @@ function insert() {
 
 function breakOff() {
   page.moves = [];
+  giveUp();
   asker.breakOff();
   say("Broken off. The next change is answered again.", "bad");
 }
 
+/* Takes the SPEC away: the tokens of the text stand in its place, where it has some. */
+function plain() {
+  if (page.words) tokens.text = page.words;
+  spec.text = "";
+  typed();
+}
+
 function listen() {
   const deeds = { first: () => move(START), back: () => move("back 1"), on: () => move("step"),
-    last: () => move(END), insert, drop: () => move("drop"), share, break: breakOff,
+    last: () => move(END), insert, drop: () => move("drop"), share, break: breakOff, plain,
     "top-state": () => gotoState(page.shown && page.shown.top ? page.shown.top : 0) };
   for (const [id, deed] of Object.entries(deeds)) at(id).onclick = deed;
   at("examples").onchange = openExample;
@@ -323,22 +369,36 @@ async function openAddress() {
   return true;
 }
 
-function busy(is) {
+/* Who is busy: the worker of the parse, or that of what is told. */
+function busy(who, on) {
+  if (on) busy.all.add(who);
+  else busy.all.delete(who);
+  const is = busy.all.size > 0;
   document.body.classList.toggle("busy", is);
   clearTimeout(busy.timer);
   if (is) busy.timer = setTimeout(() => (at("break").hidden = false), LATER);
   else at("break").hidden = true;
 }
 
+busy.all = new Set();
+
+/* The bytes of the module, which stands in the page compressed. */
+async function moduleOf(letters) {
+  const bytes = Uint8Array.from(atob(letters), (it) => it.charCodeAt(0));
+  return through(new DecompressionStream("gzip"), bytes);
+}
+
 async function begin() {
   given = JSON.parse(at("given").textContent);
-  grammar = new Editor("grammar", typed);
-  tokens = new Editor("tokens", typed);
-  const module = Uint8Array.from(atob(at("module").textContent), (it) => it.charCodeAt(0));
-  asker = new Asker(module, at("worker").textContent, { made: request, answered, busy });
+  [grammar, tokens, spec] = ["grammar", "tokens", "spec"].map((it) => new Editor(it, typed));
+  const module = await moduleOf(at("module").textContent);
+  const deeds = { made: request, answered, busy: (is) => busy("parse", is) };
+  asker = new Asker(module, at("worker").textContent, deeds);
+  tellBy(module);
   const choices = (list) => list.map(({ name, shows }) =>
     make("option", { value: name, title: shows }, name));
   at("examples").append(make("option", { value: "" }, "choose one"), ...choices(given.examples),
+    make("optgroup", { label: "Texts with a SPEC" }, ...choices(given.texts)),
     make("optgroup", { label: "Lessons" }, ...choices(given.lessons)));
   listen();
   window.onhashchange = openAddress;

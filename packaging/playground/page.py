@@ -1,5 +1,6 @@
 """Puts the page together: its frame, its style, its scripts, the module, and what it is given."""
 import base64
+import gzip
 import json
 import re
 from pathlib import Path
@@ -9,8 +10,10 @@ from binary import Refused
 HERE = Path(__file__).resolve().parent
 TOP = HERE.parents[1]
 WORKER = "library", "worker"
-SCRIPTS = "readings", "editor", "address", "asking", "parse", "automaton", "page"
+SCRIPTS = "readings", "editor", "address", "asking", "parse", "automaton", "told", "page"
 FIRST = "calculator"
+# A text of an example, which is read by the SPEC beside it.
+TEXTS = {"queries": "comma.sql", "statements": "step.c", "configuration": "site.conf"}
 # The rows of a table on faults, and of one on examples.
 FAULT = re.compile(r"^\| ([GBK]\d+(?: at the end)?) \| (.*) \| (.*) \|$", re.M)
 EXAMPLE = re.compile(r"^\| `([\w-]+)` \| (.*?) \| (.*) \|$", re.M)
@@ -42,6 +45,15 @@ def examples():
             yield {"name": name, "shows": shows.replace("`", ""), **held}
 
 
+def texts():
+    """Examples whose input is a text, each with its SPEC."""
+    for name, file in TEXTS.items():
+        at = TOP / "examples" / name
+        named = {"grammar": "grammar.y", "spec": f"{name}.lex", "tokens": file}
+        held = {it: (at / where).read_text() for it, where in named.items()}
+        yield {"name": f"{name}: {file}", "shows": "a text with its SPEC", **held}
+
+
 def lessons():
     """The lessons of the course, each with its grammar and its tokens."""
     parts = re.split(r"^## ", (TOP / "docs/COURSE.md").read_text(), flags=re.M)
@@ -54,8 +66,8 @@ def lessons():
 
 def given():
     """What the page is given, as JSON in which no element begins."""
-    texts = {"examples": list(examples()), "lessons": list(lessons())}
-    values = {"faults": faults(), "first": FIRST, **texts}
+    lists = {"examples": list(examples()), "texts": list(texts()), "lessons": list(lessons())}
+    values = {"faults": faults(), "first": FIRST, **lists}
     return json.dumps(values, ensure_ascii=False, separators=(",", ":")).replace("<", "\\u003c")
 
 
@@ -63,7 +75,7 @@ def page_of(module):
     """The page with a module."""
     parts = {
         "STYLE": (HERE / "style.css").read_text(),
-        "MODULE": base64.b64encode(module).decode(),
+        "MODULE": base64.b64encode(gzip.compress(module, mtime=0)).decode(),
         "WORKER": scripts(WORKER),
         "GIVEN": given(),
         "SCRIPT": scripts(SCRIPTS),

@@ -27,16 +27,43 @@ function sessionOf(library, grammar, tokens, commands) {
   return status === STATUS.done ? { status, text: decoded(bytes) } : { status };
 }
 
+/* The tokens of a text by its SPEC, or why it has none. */
+function cut(library, { input, spec }, grammar) {
+  const files = { "grammar.y": grammar, input: coded(input), spec: coded(spec) };
+  const words = ["tokens", "grammar.y", "--lex", "spec", "input"];
+  const { status, out, errors } = library.ydebug(words, files, coded(""));
+  return status ? { uncut: decoded(errors || coded("")) } : { tokens: decoded(out) };
+}
+
+/* The input is a text where there is a SPEC, and else tokens. */
 function answer(library, request) {
-  const [grammar, tokens] = [coded(request.grammar), coded(request.tokens)];
-  const fault = faultOf(library, grammar, tokens);
+  const grammar = coded(request.grammar), isText = Boolean(request.spec.trim());
+  const fault = faultOf(library, grammar, coded(isText ? "" : request.input));
   const found = { id: request.id, fault };
   if (![STATUS.done, STATUS.badTokens].includes(fault.status)) return found;
   found.report = reportOf(library, request.grammar, grammar);
   if (fault.status !== STATUS.done) return found;
+  Object.assign(found, isText ? cut(library, request, grammar) : { tokens: request.input });
+  if (found.uncut !== undefined) return found;
+  const tokens = coded(found.tokens);
   found.verdict = library.judge(grammar, tokens);
   found.session = sessionOf(library, grammar, tokens, request.commands);
   return found;
+}
+
+/* What ydebug says to one of the runs of a request. */
+function told(library, { files }, { name, words, input }) {
+  const bytes = Object.fromEntries(Object.entries(files).map(([it, text]) => [it, coded(text)]));
+  const { status, out, errors } = library.ydebug(words, bytes, coded(input || ""));
+  const [said, wrong] = [out, errors].map((it) => decoded(it || coded("")));
+  return { part: name, status, said, wrong };
+}
+
+/* All that is answered to a request: a part for each run, or one answer. */
+function answerAll(library, request) {
+  if (!request.runs) return answer(library, request);
+  for (const run of request.runs) postMessage({ id: request.id, ...told(library, request, run) });
+  return { id: request.id };
 }
 
 self.onmessage = async ({ data }) => {
@@ -46,7 +73,7 @@ self.onmessage = async ({ data }) => {
   }
   try {
     const library = await ready, start = performance.now();
-    postMessage({ ...answer(library, data), spent: performance.now() - start });
+    postMessage({ ...answerAll(library, data), spent: performance.now() - start });
   } catch (error) {
     postMessage({ id: data.id, broken: String(error) });
   }

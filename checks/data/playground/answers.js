@@ -1,7 +1,8 @@
 "use strict";
 /* Answers lines of JSON by the module in a page: { grammar, tokens, commands }, each a text. The
    answer is a line with the status and the replies of the session, the verdict, the fault, the
-   numbers of the tokens and the report, and what the script of the page reads in them. */
+   numbers of the tokens and the report, and what the script of the page reads in them. To
+   { words, files, input } the answer is what ydebug says and its status. */
 const { createInterface } = require("readline");
 const { libraryIn, readingsIn } = require("./taken.js");
 
@@ -23,7 +24,16 @@ function inReport({ reportOf }, report) {
     cells: lines("cells"), conflicts: lines("conflicts") };
 }
 
+/* What ydebug says by its arguments, over files and a standard input. */
+function told(library, { words, files, input }) {
+  const coded = Object.entries(files).map(([name, it]) => [name, Buffer.from(it)]);
+  const { status, out, errors } =
+    library.ydebug(words, Object.fromEntries(coded), Buffer.from(input));
+  return { status, out: text(out), errors: text(errors) };
+}
+
 function answered(library, readings, request) {
+  if (request.words) return told(library, request);
   const [grammar, tokens, commands] = ["grammar", "tokens", "commands"]
     .map((it) => Buffer.from(request[it], "latin1"));
   const session = library.session(grammar, tokens, commands);

@@ -2,6 +2,7 @@
 /* What stands in the page of the playground: the library in its worker, and the functions of its
    script that take texts apart. */
 const { readFileSync } = require("fs");
+const { gunzipSync } = require("zlib");
 const { runInThisContext } = require("vm");
 
 const element = (page, id) => new RegExp(`<script[^>]* id="${id}">([^]*?)</script>`).exec(page)[1];
@@ -15,7 +16,7 @@ const calling = (...parts) => runInThisContext(`(() => {${parts.join("\n")}})()`
 /* The library of a page, loaded as its worker does it. */
 async function libraryIn(path) {
   const page = readFileSync(path, "utf8");
-  const bytes = Buffer.from(element(page, "module"), "base64");
+  const bytes = gunzipSync(Buffer.from(element(page, "module"), "base64"));
   return calling("const self = {};", element(page, "worker"), "return libraryOf;")(bytes);
 }
 

@@ -3,7 +3,9 @@
 use crate::history::{SOME_STEPS, put_history};
 use std::alloc::{AllocError, Global};
 use std::io::Write;
-use ycommands::condition::{condition_near, number_in, symbol_named, symbol_near, token_named};
+use ycommands::condition::{
+    condition_near, is_digits, number_in, symbol_named, symbol_near, token_named,
+};
 use ycommands::refusal::{Refusal, misused, put_refusal};
 use ycommands::travel::LAST;
 use ycommands::verb::Verb;
@@ -149,23 +151,41 @@ impl<W: Write> View<'_, W> {
         }
     }
 
-    /// Why the cell of the state and the token ahead says what it says, or that of another token.
+    /// Why the cell of the state and the token ahead says what it says, or that of another state or
+    /// another token, whose number comes before its name.
     pub fn show_why(&mut self, text: &str) -> Result<(), AllocError> {
+        let parse = self.parse;
+        let (first, name) = first_word(text);
+        if !is_digits(first) {
+            return self.show_cell(parse.session().state(), text);
+        }
+        match number_in(first, "states", 0, last_state(parse.tables())) {
+            Ok(state) => self.show_cell(state, name),
+            Err(refusal) => {
+                self.refuse(Verb::Why, refusal);
+                Ok(())
+            }
+        }
+    }
+
+    /// Why the cell of a state and a token says what it says; of the token ahead, where none is
+    /// named.
+    fn show_cell(&mut self, state: usize, name: &str) -> Result<(), AllocError> {
         let parse = self.parse;
         let session = parse.session();
         let asked = Question {
             tables: session.tables(),
             lines: parse.lines(),
-            state: session.state(),
+            state,
             token: token_ahead(session),
         };
-        if text.is_empty() {
+        if name.is_empty() {
             put_why(self.alloc, self.page, asked)?;
             put_mode(self.page, session.view().mode());
             return Ok(());
         }
-        let Some(token) = token_named(session, text) else {
-            return self.refuse_name(text, Refusal::NoToken);
+        let Some(token) = token_named(session, name) else {
+            return self.refuse_name(name, Refusal::NoToken);
         };
         put_why(self.alloc, self.page, Question { token, ..asked })
     }
