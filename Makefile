@@ -6,7 +6,7 @@
 # make bench      times whole runs of the programs, on growing grammars and over long parses; FILES="a.y b.y" adds grammar files to them
 # make refuse     refuses allocations of a run, each once and each with all later ones, on every example and some scenarios, and counts those of each line of every session; FILES="a.y b.y" refuses some thousands over these grammar files instead
 # make debug      refuses the allocations of twelve sessions and sixteen commands of ydebug in turn, gives it 100,000 random command lines over random grammars, and shows its screens at a terminal, which needs tmux
-# make page-test  steps through the pages of every example in a headless browser, which apt-get installs where it is missing, and compares them with ystep; keeps pictures in screenshots/
+# make page-test  steps through the pages of every example in a headless browser, which apt-get installs where it is missing, and compares them with ystep; runs the playground too, where it was made; keeps pictures in screenshots/
 # make compare    compares the programs that make build left with plain machines in Python, on grammars drawn at random, for a minute, its reports on conflicts with all canonical sets and with what it says for programs, verdicts with sessions over every scenario, errors with a search over all stacks, texts with a lexer in Python, and what hints and warnings on conflicts say with changed grammars, for a minute each; FILES="a.y b.y" adds these, cut off and spoiled, with a second reader
 # make parsers    compares the steps of parsers that ycc makes with those of ystep, over scenarios and 2,000 grammars at random, their messages for errors with those of ydebug, and builds the calculator of examples/calculator-c in every way; some minutes
 # make features   builds small programs, each of which uses a feature of bison's or byacc's files, by the peer and by ycc, and compares what they do; it takes bison, byacc and a C compiler; some minutes
@@ -16,7 +16,7 @@
 # make wheel      makes a wheel of the module in Python in bin/, with the library in it; PYTHON names a Python that has build, setuptools and wheel
 # make library-test  runs that library: the scenarios of ystep through C and Python, every room, refused memory, threads; some minutes
 # make playground  makes bin/playground.html, one page for grammars and parses with the library in it, as a WebAssembly module, in a checkout whose crates were proved
-# make playground-test  runs it: the module by node on the scenarios of ystep and on 2,000 grammars at random, the page in a headless browser, which apt-get installs where it is missing
+# make playground-test  runs it: the module by node on the scenarios of ystep and on 2,000 grammars at random, the page in headless browsers, which apt-get installs where they are missing
 # make install    copies programs, manual pages, completions, drivers and books below PREFIX (/usr/local), and with DESTDIR below that; make build comes first. The library and its module for Python, which goes to PYTHONDIR (lib/python3/dist-packages), are copied where make library built it, but for NO_LIBRARY=1, and the playground where make playground did. The yacc that writes tables and no C goes to libexec/sulderko; TABLE_WRITER=1 puts it into bin. YACC_LINK=1 makes bin/yacc a symbolic link to ycc, for builds that call it so
 # make uninstall  takes the same files away; a bin/yacc that isn't ours stays
 # make dist       packs what git has of this state into bin/; its name has what VERSION says
@@ -71,6 +71,7 @@ debug: build
 
 page-test: build
 	@$(checks) pages --install $(call at,ydebug ystep)
+	@$(if $(wildcard bin/playground.html),$(checks) playground --install $(call at,ystep ydebug),true)
 
 compare:
 	@$(checks) compare $(call at,yacc ystep)
@@ -112,7 +113,7 @@ playground:
 	@python3 packaging/playground/build.py
 
 playground-test:
-	@$(checks) playground --install $(if $(wildcard bin/ystep),$(call at,ystep))
+	@$(checks) playground --install $(if $(wildcard bin/ystep),$(call at,ystep)) $(if $(wildcard bin/ydebug),$(call at,ydebug))
 
 # The wheel is made in a folder of its own, with the library beside the module.
 PYTHON ?= python3

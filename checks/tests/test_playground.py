@@ -232,6 +232,50 @@ class ThePage(Planted):
         rows = [[0, "2"], [1, "'('", "1"], [1, "3"], [1, "error"], [0, "' '", "7"]]
         self.assertEqual(page.rows_of(["(2 '('@1 (3) error)", "' '@7"]), rows)
 
+    def test_cards(self):
+        """The blocks of a report, and the texts of their cards."""
+        block = "grammar.y:7:11: warning: conflict 1: state 3 on B: shift\n  shift  B\n    A ."
+        report = f"grammar.y: 1 shift/reduce\n  a cause\n\n{block}\n\ngrammar.y:9: warning: x\n"
+        head, *blocks = page.blocks_of(report)
+        self.assertEqual(head, "grammar.y: 1 shift/reduce\n  a cause")
+        self.assertEqual(blocks, [block, "grammar.y:9: warning: x"])
+        card = "conflict 1: state 3 on B: shift 7:11shift  B\n  A ."
+        self.assertEqual([page.card_of(it) for it in blocks], [card, "x line 9"])
+
+    def shown(self, texts):
+        """A page that shows texts by their names, and always the same of a parse."""
+        made = mock.MagicMock(**{"seen.return_value": self.seen(), "value.return_value": "",
+                                 "texts.return_value": ("", "")})
+        made.text.side_effect = lambda name: texts.get(name, "")
+        return made
+
+    def failed(self, deed, texts, told):
+        """How many things of a deed fail, where a page shows texts and ydebug says something."""
+        module_told = mock.Mock(told=mock.Mock(side_effect=lambda *_: told))
+        return self.counted(lambda count: deed(count, self.shown(texts), module_told))[1]
+
+    def test_reasons(self):
+        """Another reason is shown than ydebug gives, or one of another cell."""
+        told = {"out": "state 33 on ELSE: shift\n", "errors": "", "status": 0}
+        here = {"out": "state 3 on ';': shift\n", "errors": "", "status": 0}
+        right = {"why-here": "state 3 on ';': shift", "why-there": "state 33 on ELSE: shift"}
+        answers = mock.Mock(told=lambda words, files, lines: here if " 3 " in lines else told)
+        for texts, wrong in ((right, 0), ({**right, "why-there": right["why-here"]}, 2),
+                             ({**right, "why-here": ""}, 2)):
+            found = self.counted(lambda count, it=texts: page.try_reasons(
+                count, self.shown(it), answers))
+            self.assertEqual(found[1], wrong, texts)
+
+    def test_page_of_a_parse(self):
+        """The frame has another page's data, or stands elsewhere; another line of ydebug."""
+        data = '<script type="application/json" id="data">{1}</script>'
+        told = {"out": data, "errors": "", "status": 0}
+        right = {"data": "{1}", "title": "input, parsed by grammar.y", "place": "1 of 9",
+                 "told": data}
+        self.assertEqual(self.failed(page.try_page, right, told), 0)
+        for name, wrong in (("data", "{2}"), ("title", "x"), ("place", "0 of 9"), ("told", "")):
+            self.assertEqual(self.failed(page.try_page, {**right, name: wrong}, told), 1, name)
+
     def test_programs(self):
         """A program that is given goes before the proved one, by its whole path."""
         (self.room / "ystep").write_text("")
