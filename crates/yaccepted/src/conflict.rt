@@ -2,6 +2,7 @@
 
 use std::alloc::{AllocError, Global};
 use yexplain::lines::Spot;
+use ysymbols::let_go;
 use ysymbols::names::{SymbolTable, intern, is_among, number_in};
 
 /// A conflict between two items on a token.
@@ -19,12 +20,7 @@ pub struct Conflict {
 impl Drop for Conflict {
     // A call in each owner, which keeps their proofs short.
     fn drop(self) {
-        let Conflict {
-            spot: _,
-            token: _,
-            taken: _,
-            other: _,
-        } = self;
+        let_go!(self: Conflict { spot, token, taken, other });
     }
 }
 
@@ -67,9 +63,7 @@ pub struct Conflicts {
 impl Drop for Conflicts {
     // A call in each owner, which keeps their proofs short.
     fn drop(self) {
-        let Conflicts { all, keys } = self;
-        drop(all);
-        drop(keys);
+        let_go!(self: Conflicts { all, keys });
     }
 }
 

@@ -4,6 +4,7 @@ use crate::conflict::{Conflict, Conflicts};
 use std::alloc::{AllocError, Global};
 use std::mem;
 use yexplain::lines::Spot;
+use ysymbols::let_go;
 use ysymbols::names::{SymbolTable, intern, number_in};
 
 /// The line with which a list begins.
@@ -75,16 +76,7 @@ pub struct List {
 impl Drop for List {
     // A call in each owner, which keeps their proofs short.
     fn drop(self) {
-        let List {
-            accepted,
-            head: _,
-            tail: _,
-            fronts,
-            comments,
-        } = self;
-        drop(accepted);
-        drop(fronts);
-        drop(comments);
+        let_go!(self: List { accepted, head, tail, fronts, comments });
     }
 }
 

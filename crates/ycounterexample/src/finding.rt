@@ -9,7 +9,7 @@ use std::alloc::{AllocError, Global};
 use std::io;
 use ylalr::END;
 use yparse::Session;
-use ysymbols::Sym;
+use ysymbols::{Sym, let_go};
 
 /// How many lists are tried, the first one among them, where that one doesn't get there.
 const MOST_LISTS: usize = 100;
@@ -63,15 +63,7 @@ pub struct List {
 impl Drop for List {
     // A call in each owner, which keeps their proofs short.
     fn drop(self) {
-        let List {
-            allows: _,
-            rules: _,
-            tokens: _,
-            trial: _,
-            other: _,
-            tried: _,
-            recovered: _,
-        } = self;
+        let_go!(self: List { allows, rules, tokens, trial, other, tried, recovered });
     }
 }
 

@@ -4,6 +4,7 @@ use serde::Serialize;
 use std::alloc::{AllocError, Global};
 use std::io::{self, Write};
 use yexplain::lines::Spot;
+use ysymbols::let_go;
 
 /// How bad something is.
 #[derive(Clone, Copy, Drop, PartialEq, Eq)]
@@ -47,14 +48,7 @@ pub struct Diagnostic {
 impl Drop for Diagnostic {
     // A call in each owner, which keeps their proofs short.
     fn drop(self) {
-        let Diagnostic {
-            file: _,
-            line: _,
-            column: _,
-            severity: _,
-            message: _,
-            notes: _,
-        } = self;
+        let_go!(self: Diagnostic { file, line, column, severity, message, notes });
     }
 }
 

@@ -7,6 +7,7 @@ use crate::kinds::KindSheet;
 use serde::Serialize;
 use std::alloc::Global;
 use std::io::{self, ErrorKind, Write};
+use ysymbols::let_go;
 
 /// The version of the document.
 const VERSION: usize = 1;
@@ -30,14 +31,9 @@ pub struct ConflictSheet {
 impl Drop for ConflictSheet {
     // A call in each owner, which keeps their proofs short.
     fn drop(self) {
-        let ConflictSheet {
-            shift_reduce: _,
-            reduce_reduce: _,
-            cells: _,
-            accepted: _,
-            kinds: _,
-            others: _,
-        } = self;
+        let_go!(self: ConflictSheet {
+            shift_reduce, reduce_reduce, cells, accepted, kinds, others
+        });
     }
 }
 

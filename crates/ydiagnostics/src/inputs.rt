@@ -11,7 +11,7 @@ use yfaults::shown::Place;
 use yinput::language::Input;
 use yinput::spelled::Spoken;
 use yinput::verdict::{Rejection, Verdict};
-use ysymbols::Grammar;
+use ysymbols::{Grammar, let_go};
 
 /// What comes of an input.
 #[derive(Serialize)]
@@ -32,15 +32,7 @@ pub struct InputSheet {
 impl Drop for InputSheet {
     // A call in each owner, which keeps their proofs short.
     fn drop(self) {
-        let InputSheet {
-            file: _,
-            verdict: _,
-            steps: _,
-            number: _,
-            token: _,
-            expected: _,
-            unknown: _,
-        } = self;
+        let_go!(self: InputSheet { file, verdict, steps, number, token, expected, unknown });
     }
 }
 

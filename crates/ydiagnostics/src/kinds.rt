@@ -12,7 +12,7 @@ use yexplain::lines::Lines;
 use yexplain::reads::grammar_of;
 use yexplain::text::{Name, RuleText};
 use yparse::Session;
-use ysymbols::{Grammar, Sym};
+use ysymbols::{Grammar, Sym, let_go};
 
 /// The most kinds for which lists are sought.
 const MOST_SOUGHT: usize = 200;
@@ -29,12 +29,7 @@ pub struct RuleSheet {
 impl Drop for RuleSheet {
     // A call in each owner, which keeps their proofs short.
     fn drop(self) {
-        let RuleSheet {
-            rule: _,
-            line: _,
-            column: _,
-            text: _,
-        } = self;
+        let_go!(self: RuleSheet { rule, line, column, text });
     }
 }
 
@@ -54,12 +49,7 @@ pub struct ListSheet {
 impl Drop for ListSheet {
     // A call in each owner, which keeps their proofs short.
     fn drop(self) {
-        let ListSheet {
-            rules: _,
-            both: _,
-            tokens: _,
-            parse: _,
-        } = self;
+        let_go!(self: ListSheet { rules, both, tokens, parse });
     }
 }
 
@@ -84,16 +74,7 @@ pub struct KindSheet {
 impl Drop for KindSheet {
     // A call in each owner, which keeps their proofs short.
     fn drop(self) {
-        let KindSheet {
-            state: _,
-            states: _,
-            last: _,
-            token: _,
-            taken: _,
-            rules: _,
-            more: _,
-            lists: _,
-        } = self;
+        let_go!(self: KindSheet { state, states, last, token, taken, rules, more, lists });
     }
 }
 

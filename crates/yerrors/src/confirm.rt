@@ -7,7 +7,7 @@ use yinput::expected::{Wanted, expected_within, states_after};
 use ylalr::END;
 use yparse::Session;
 use yparse::machine::StepKind;
-use ysymbols::Sym;
+use ysymbols::{Sym, let_go};
 use ytables::Tables;
 use yview::reading::{stack_symbol, token_ahead};
 
@@ -54,12 +54,7 @@ pub struct Confirmed {
 impl Drop for Confirmed {
     // A call in each owner, which keeps their proofs short.
     fn drop(self) {
-        let Confirmed {
-            tokens: _,
-            last: _,
-            stack: _,
-            wanted: _,
-        } = self;
+        let_go!(self: Confirmed { tokens, last, stack, wanted });
     }
 }
 

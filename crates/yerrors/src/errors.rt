@@ -11,7 +11,7 @@ use std::io;
 use yexplain::reads::{action_of, default_of, grammar_of};
 use ylalr::token_count;
 use yparse::Session;
-use ysymbols::Sym;
+use ysymbols::{Sym, let_go};
 use ytables::{Action, Tables};
 
 /// Why there is no list for a state.
@@ -67,7 +67,7 @@ pub struct Errors {
 impl Drop for Errors {
     // A call in each owner, which keeps their proofs short.
     fn drop(self) {
-        let Errors { outcomes: _ } = self;
+        let_go!(self: Errors { outcomes });
     }
 }
 

@@ -5,7 +5,7 @@ use indexmap::{IndexMap, IndexSet};
 use std::alloc::{AllocError, Global};
 use ycounterexample::queue::Queue;
 use ylalr::Item;
-use ysymbols::Sym;
+use ysymbols::{Sym, let_go};
 
 /// The most steps of a search: words of sets that are made, and rows that are looked at.
 pub const MOST_STEPS: usize = 100_000_000;
@@ -146,20 +146,9 @@ pub struct Rows {
 impl Drop for Rows {
     // A call in each owner, which keeps their proofs short.
     fn drop(self) {
-        let Rows {
-            alloc: _,
-            sets: _,
-            spots,
-            of_spots: _,
-            numbers,
-            rows: _,
-            waiting: _,
-            queue: _,
-            steps: _,
-            words: _,
-        } = self;
-        drop(spots);
-        drop(numbers);
+        let_go!(self: Rows {
+            alloc, sets, spots, of_spots, numbers, rows, waiting, queue, steps, words
+        });
     }
 }
 

@@ -9,7 +9,7 @@ use indexmap::IndexMap;
 use std::alloc::{AllocError, Global};
 use yexplain::reads::{is_complete, items_of, left_of, set};
 use ylalr::{ERROR, Item, token_count};
-use ysymbols::Sym;
+use ysymbols::{Sym, let_go};
 
 /// A search in tables.
 pub struct Search<'a> {
@@ -31,16 +31,7 @@ pub struct Search<'a> {
 impl Drop for Search<'_> {
     // A call in each owner, which keeps their proofs short.
     fn drop(self) {
-        let Search {
-            ways: _,
-            absent: _,
-            rows: _,
-            masks,
-            inputs: _,
-            alone: _,
-            detected: _,
-        } = self;
-        drop(masks);
+        let_go!(self: Search { ways, absent, rows, masks, inputs, alone, detected });
     }
 }
 

@@ -10,7 +10,7 @@ use serde::Serialize;
 use std::alloc::{AllocError, Global};
 use std::io::{self, ErrorKind};
 use yfaults::opening::Opened;
-use ysymbols::Sym;
+use ysymbols::{Sym, let_go};
 
 /// What the script is given.
 #[derive(Serialize)]
@@ -28,14 +28,7 @@ struct Data<'a> {
 impl Drop for Data<'_> {
     // A call in each owner, which keeps their proofs short.
     fn drop(self) {
-        let Data {
-            files: _,
-            table: _,
-            input: _,
-            record: _,
-            cells: _,
-            conflicts: _,
-        } = self;
+        let_go!(self: Data { files, table, input, record, cells, conflicts });
     }
 }
 

@@ -4,7 +4,7 @@ use serde::Serialize;
 use std::alloc::{AllocError, Global};
 use yparse::Session;
 use yparse::machine::{Mode, StepKind};
-use ysymbols::Sym;
+use ysymbols::{Sym, let_go};
 use yview::reading::{stack_state, stack_symbol};
 
 /// Where a parse stands at the first position of the page.
@@ -40,13 +40,7 @@ pub struct Record {
 impl Drop for Record {
     // A call in each owner, which keeps their proofs short.
     fn drop(self) {
-        let Record {
-            start: _,
-            kinds: _,
-            rules: _,
-            states: _,
-            cells: _,
-        } = self;
+        let_go!(self: Record { start, kinds, rules, states, cells });
     }
 }
 

@@ -6,7 +6,7 @@ use std::alloc::{AllocError, Global};
 use std::io::{self, ErrorKind};
 use yinput::Parse;
 use yparse::machine::{StepFault, StepKind};
-use ysymbols::Sym;
+use ysymbols::{Sym, let_go};
 use yview::reading::{is_running, token_ahead};
 
 /// The most steps that a page shows.
@@ -32,8 +32,7 @@ pub struct Trail {
 impl Drop for Trail {
     // A call in each owner, which keeps their proofs short.
     fn drop(self) {
-        let Trail { record: _, cells } = self;
-        drop(cells);
+        let_go!(self: Trail { record, cells });
     }
 }
 

@@ -5,7 +5,7 @@ use crate::words::is_only_bison;
 use std::alloc::{AllocError, Global};
 use yforeign::lexeme::{Kind, Lexeme};
 use yimport::import::Imported;
-use ysymbols::{Grammar, Sym};
+use ysymbols::{Grammar, Sym, let_go};
 
 /// The text of a lexeme as a piece.
 pub fn piece_of<'a>(source: &'a [u8], lexeme: &Lexeme) -> Piece<'a> {
@@ -39,16 +39,9 @@ pub struct Gather<'a, 'b> {
 impl Drop for Gather<'_, '_> {
     // A call in each owner, which keeps their proofs short.
     fn drop(self) {
-        let Gather {
-            alloc: _,
-            source: _,
-            grammar: _,
-            imported: _,
-            parts: _,
-            actions: _,
-            action_tags: _,
-            left: _,
-        } = self;
+        let_go!(self: Gather {
+            alloc, source, grammar, imported, parts, actions, action_tags, left
+        });
     }
 }
 

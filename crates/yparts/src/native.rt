@@ -6,7 +6,7 @@ use std::mem;
 use yexplain::lines::{Spots, symbol_of};
 use ylexemes::part::Lexeme;
 use ysourcemap::{Mark, Role};
-use ysymbols::{Grammar, Sym};
+use ysymbols::{Grammar, Sym, let_go};
 
 /// A file whose parts are gathered.
 struct Gather<'a, 'b> {
@@ -23,15 +23,7 @@ struct Gather<'a, 'b> {
 impl Drop for Gather<'_, '_> {
     // A call in each owner, which keeps their proofs short.
     fn drop(self) {
-        let Gather {
-            source: _,
-            grammar: _,
-            spots: _,
-            parts: _,
-            actions: _,
-            tag: _,
-            marks: _,
-        } = self;
+        let_go!(self: Gather { source, grammar, spots, parts, actions, tag, marks });
     }
 }
 

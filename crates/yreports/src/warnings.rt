@@ -9,7 +9,7 @@ use yexplain::reads::{grammar_of, is_reachable, left_of, level_of, set};
 use yexplain::text::{Name, RuleText};
 use ylalr::ERROR;
 use ysourcemap::Role;
-use ysymbols::{Grammar, Sym};
+use ysymbols::{Grammar, Sym, let_go};
 use ytables::Tables;
 use yview::page::Page;
 
@@ -36,7 +36,7 @@ pub struct Warning {
 impl Drop for Warning {
     // A call in each owner, which keeps their proofs short.
     fn drop(self) {
-        let Warning { spot: _, text: _ } = self;
+        let_go!(self: Warning { spot, text });
     }
 }
 

@@ -3,6 +3,7 @@
 use std::alloc::{AllocError, Global};
 use yparts::options::{Errors, Options, Purity};
 use yparts::parts::{Deed, Parts};
+use ysymbols::let_go;
 
 /// Whose order and names a parser has.
 #[derive(Clone, Copy, Debug, PartialEq, Eq)]
@@ -55,17 +56,9 @@ pub struct Style<'a> {
 impl Drop for Style<'_> {
     // A call in each owner, which keeps their proofs short.
     fn drop(self) {
-        let Style {
-            wishes: _,
-            options: _,
-            names: _,
-            types: _,
-            macros: _,
-            has_tags: _,
-            locations: _,
-            destroys: _,
-            prints: _,
-        } = self;
+        let_go!(self: Style {
+            wishes, options, names, types, macros, has_tags, locations, destroys, prints
+        });
     }
 }
 

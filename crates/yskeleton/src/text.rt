@@ -3,6 +3,7 @@
 use std::alloc::Global;
 use std::io::{self, Write};
 use yexplain::lines::newlines;
+use ysymbols::let_go;
 
 /// The path of a file as it stands in a string of C.
 #[derive(Clone, Copy)]
@@ -40,13 +41,7 @@ pub struct Text<'a> {
 impl Drop for Text<'_> {
     // A call in each owner, which keeps their proofs short.
     fn drop(self) {
-        let Text {
-            bytes: _,
-            counted: _,
-            lines: _,
-            path: _,
-            told: _,
-        } = self;
+        let_go!(self: Text { bytes, counted, lines, path, told });
     }
 }
 

@@ -7,7 +7,7 @@ use std::io::Write;
 use yexplain::reads::{grammar_of, left_of};
 use ylalr::{END, ERROR};
 use yparse::{Session, TreeNode, TreeView};
-use ysymbols::{Grammar, Sym};
+use ysymbols::{Grammar, Sym, let_go};
 
 /// What is written for a form without a symbol.
 const EMPTY: &str = " (empty)";
@@ -25,10 +25,7 @@ struct Form<'a> {
 impl Drop for Form<'_> {
     // A call in each owner, which keeps their proofs short.
     fn drop(self) {
-        let Form {
-            trees: _,
-            tokens: _,
-        } = self;
+        let_go!(self: Form { trees, tokens });
     }
 }
 
