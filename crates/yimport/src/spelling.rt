@@ -6,8 +6,8 @@ use std::alloc::{AllocError, Global};
 use yforeign::lexeme::{Kind, Lexeme};
 use yforeign::survey::{Survey, inside, is_text, with_quotes};
 use ylexemes::literal::literal_at;
-use ysymbols::{names::Printed, let_go};
-use ysymbols::{Grammar, Sym};
+use ysymbols::names::Printed;
+use ysymbols::{Grammar, Sym, let_go};
 
 /// The end of every input.
 const END: Sym = 0;

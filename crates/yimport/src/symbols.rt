@@ -9,7 +9,8 @@ use indexmap::IndexMap;
 use std::alloc::{AllocError, Global};
 use yforeign::lexeme::{Lexeme, Span};
 use yforeign::survey::{Survey, inside, is_text};
-use ysymbols::{names::is_among, let_go};
+use ysymbols::let_go;
+use ysymbols::names::is_among;
 
 /// A number of conflicts that a file expects, and what says so.
 #[derive(Clone, Copy, Drop)]
