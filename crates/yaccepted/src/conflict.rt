@@ -1,7 +1,8 @@
 //! A conflict as a list has it: texts, in which no number of a state or a rule stands.
 
-use std::alloc::{AllocError, Global};
+use std::alloc::Global;
 use yexplain::lines::Spot;
+use yexplain::reads::Made;
 use ysymbols::let_go;
 use ysymbols::names::{SymbolTable, intern, is_among, number_in};
 
@@ -26,7 +27,7 @@ impl Drop for Conflict {
 
 impl Conflict {
     /// The same again.
-    pub fn copy(&self, alloc: Global) -> Result<Conflict, AllocError> {
+    pub fn copy(&self, alloc: Global) -> Made<Conflict> {
         Ok(Conflict {
             spot: self.spot,
             token: Vec::from_slice(alloc, &self.token)?,
@@ -36,7 +37,7 @@ impl Conflict {
     }
 
     /// What a conflict is compared by with others of its token that are settled by the same item.
-    pub fn front(&self, alloc: Global) -> Result<Vec<u8>, AllocError> {
+    pub fn front(&self, alloc: Global) -> Made<Vec<u8>> {
         let mut key = Vec::from_slice(alloc, &self.token)?;
         key.push(b'\n')?;
         key.extend_from_slice(&self.taken)?;
@@ -44,7 +45,7 @@ impl Conflict {
     }
 
     /// What a conflict is compared by.
-    pub fn key(&self, alloc: Global) -> Result<Vec<u8>, AllocError> {
+    pub fn key(&self, alloc: Global) -> Made<Vec<u8>> {
         let mut key = self.front(alloc)?;
         key.push(b'\n')?;
         key.extend_from_slice(&self.other)?;
@@ -77,20 +78,20 @@ impl Conflicts {
     }
 
     /// Whether a conflict is among them.
-    pub fn has(&self, alloc: Global, conflict: &Conflict) -> Result<bool, AllocError> {
+    pub fn has(&self, alloc: Global, conflict: &Conflict) -> Made<bool> {
         let key = conflict.key(alloc)?;
         Ok(is_among(&self.keys, &key))
     }
 
     /// The line of a conflict, where it is among them.
-    pub fn line_of(&self, alloc: Global, conflict: &Conflict) -> Result<Option<usize>, AllocError> {
+    pub fn line_of(&self, alloc: Global, conflict: &Conflict) -> Made<Option<usize>> {
         let key = conflict.key(alloc)?;
         let before = self.all.get(number_in(&self.keys, &key));
         Ok(before.map(|before| before.spot.line))
     }
 
     /// Adds a conflict, unless it is among them, and says whether it was added.
-    pub fn add(&mut self, alloc: Global, conflict: Conflict) -> Result<bool, AllocError> {
+    pub fn add(&mut self, alloc: Global, conflict: Conflict) -> Made<bool> {
         let key = conflict.key(alloc)?;
         if is_among(&self.keys, &key) {
             return Ok(false);

@@ -5,9 +5,10 @@ use crate::messages::speech_of;
 use crate::names::{Names, names_of};
 use crate::reading::Reading;
 use crate::words::Given;
-use std::alloc::{AllocError, Global};
+use std::alloc::Global;
 use std::io::Write;
 use ycode::code_of;
+use yexplain::reads::Made;
 use yfiles::writing::write_over;
 use yparts::options::{Header, Options};
 use yskeleton::{Mode, Skeleton, Text, Trouble, Wishes, default_rules, style_of};
@@ -152,7 +153,7 @@ fn make(
 }
 
 /// The rules by which bison's lists go, where these are wanted.
-fn defaults_of(alloc: Global, tables: &Tables, is_wanted: bool) -> Result<Vec<usize>, AllocError> {
+fn defaults_of(alloc: Global, tables: &Tables, is_wanted: bool) -> Made<Vec<usize>> {
     if is_wanted {
         default_rules(alloc, tables)
     } else {

@@ -3,8 +3,9 @@
 use crate::cells::Cells;
 use crate::steps::step;
 use crate::uses::Uses;
-use std::alloc::{AllocError, Global};
+use std::alloc::Global;
 use std::io::{self, ErrorKind};
+use yexplain::reads::Made;
 use yinput::session_of;
 use yparse::machine::StepFault;
 use yparse::{Session, Tokens};
@@ -53,7 +54,7 @@ fn astray() -> io::Error {
 }
 
 /// The same tokens.
-fn copy_of(alloc: Global, tokens: &[Sym]) -> Result<Vec<Sym>, AllocError> {
+fn copy_of(alloc: Global, tokens: &[Sym]) -> Made<Vec<Sym>> {
     let mut symbols = Vec::with_capacity(alloc, tokens.len())?;
     symbols.extend_from_slice(tokens)?;
     Ok(symbols)

@@ -1,9 +1,10 @@
 //! What is said of a place of a file.
 
 use serde::Serialize;
-use std::alloc::{AllocError, Global};
+use std::alloc::Global;
 use std::io::{self, Write};
 use yexplain::lines::Spot;
+use yexplain::reads::Made;
 use ysymbols::let_go;
 
 /// How bad something is.
@@ -60,7 +61,7 @@ impl Diagnostic {
         spot: Option<Spot>,
         severity: Severity,
         message: String,
-    ) -> Result<Diagnostic, AllocError> {
+    ) -> Made<Diagnostic> {
         let file = match file {
             Some(path) => Some(String::from_str(alloc, path)?),
             None => None,

@@ -9,7 +9,7 @@ use ycounterexample::finding::{Allows, Finding, List, Seeker};
 use ycounterexample::groups::{Conflicts, Group, Kind};
 use ycounterexample::trial::Trial;
 use yexplain::lines::Lines;
-use yexplain::reads::grammar_of;
+use yexplain::reads::{Made, grammar_of};
 use yexplain::text::{Name, RuleText};
 use yparse::Session;
 use ysymbols::{Grammar, Sym, let_go};
@@ -90,17 +90,13 @@ pub struct Shown<'a> {
 }
 
 /// The name of a symbol.
-fn named(alloc: Global, grammar: &Grammar, symbol: Sym) -> Result<String, AllocError> {
+fn named(alloc: Global, grammar: &Grammar, symbol: Sym) -> Made<String> {
     let name = Name(grammar, symbol);
     format!(in alloc; "{name}")
 }
 
 /// The names of symbols.
-pub fn names_of(
-    alloc: Global,
-    grammar: &Grammar,
-    symbols: &[Sym],
-) -> Result<Vec<String>, AllocError> {
+pub fn names_of(alloc: Global, grammar: &Grammar, symbols: &[Sym]) -> Made<Vec<String>> {
     let mut names = Vec::new(alloc);
     for symbol in symbols {
         names.push(named(alloc, grammar, *symbol)?)?;
@@ -120,7 +116,7 @@ fn word_of(trial: Trial) -> &'static str {
 }
 
 /// A list.
-fn list_sheet(alloc: Global, grammar: &Grammar, list: &List) -> Result<ListSheet, AllocError> {
+fn list_sheet(alloc: Global, grammar: &Grammar, list: &List) -> Made<ListSheet> {
     Ok(ListSheet {
         rules: Vec::from_slice(alloc, &list.rules)?,
         both: list.allows == Allows::Both,
@@ -130,11 +126,7 @@ fn list_sheet(alloc: Global, grammar: &Grammar, list: &List) -> Result<ListSheet
 }
 
 /// The lists that were found.
-fn list_sheets(
-    alloc: Global,
-    grammar: &Grammar,
-    finding: &Finding,
-) -> Result<Vec<ListSheet>, AllocError> {
+fn list_sheets(alloc: Global, grammar: &Grammar, finding: &Finding) -> Made<Vec<ListSheet>> {
     let mut lists = Vec::new(alloc);
     for list in &finding.lists {
         lists.push(list_sheet(alloc, grammar, list)?)?;
@@ -144,12 +136,7 @@ fn list_sheets(
 
 impl Shown<'_> {
     /// A rule.
-    fn rule_sheet(
-        self,
-        alloc: Global,
-        grammar: &Grammar,
-        rule: usize,
-    ) -> Result<RuleSheet, AllocError> {
+    fn rule_sheet(self, alloc: Global, grammar: &Grammar, rule: usize) -> Made<RuleSheet> {
         let (spot, text) = (self.lines.spot(rule), RuleText(grammar, rule));
         Ok(RuleSheet {
             rule,
@@ -160,12 +147,7 @@ impl Shown<'_> {
     }
 
     /// The rules of a kind.
-    fn rule_sheets(
-        self,
-        alloc: Global,
-        grammar: &Grammar,
-        kind: &Kind,
-    ) -> Result<Vec<RuleSheet>, AllocError> {
+    fn rule_sheets(self, alloc: Global, grammar: &Grammar, kind: &Kind) -> Made<Vec<RuleSheet>> {
         let mut rules = Vec::new(alloc);
         for rule in kind.rules() {
             rules.push(self.rule_sheet(alloc, grammar, *rule)?)?;
@@ -180,7 +162,7 @@ impl Shown<'_> {
         grammar: &Grammar,
         (kind, group): (&Kind, Group),
         lists: Option<Vec<ListSheet>>,
-    ) -> Result<KindSheet, AllocError> {
+    ) -> Made<KindSheet> {
         let rules = self.rule_sheets(alloc, grammar, kind)?;
         let all = kind.rivals.saturating_add(usize::from(!kind.shift));
         Ok(KindSheet {

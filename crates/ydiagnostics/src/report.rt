@@ -5,7 +5,7 @@ use crate::document::{ConflictSheet, Said};
 use crate::format::Format;
 use crate::kinds::Shown;
 use crate::told::{About, add_all, checked};
-use std::alloc::{AllocError, Global};
+use std::alloc::Global;
 use std::io::{self, Write};
 use std::rt::Files;
 use yaccepted::conflict::Conflict;
@@ -13,7 +13,7 @@ use yaccepted::judged::{self, Judged, Listed, judge};
 use yaccepted::opening::{Counted, File, open_counted};
 use ycounterexample::groups::Conflicts;
 use ycounterexample::trial::empty_session;
-use yexplain::reads::grammar_of;
+use yexplain::reads::{Made, grammar_of};
 use yexplain::text::Bytes;
 use yfaults::opening::Opened;
 use yparse::Session;
@@ -81,7 +81,7 @@ fn listed_diagnostic(
     path: &str,
     (front, severity): (&str, Severity),
     conflict: &Conflict,
-) -> Result<Diagnostic, AllocError> {
+) -> Made<Diagnostic> {
     let spot = Some(conflict.spot);
     let token = Bytes(&conflict.token);
     let message = format!(in alloc; "{front}conflict on {token}")?;
@@ -100,7 +100,7 @@ fn add_conflicts(
     path: &str,
     front: (&str, Severity),
     conflicts: &[Conflict],
-) -> Result<(), AllocError> {
+) -> Made<()> {
     for conflict in conflicts {
         all.push(listed_diagnostic(alloc, path, front, conflict)?)?;
     }
@@ -113,7 +113,7 @@ fn add_listed(
     all: &mut Vec<Diagnostic>,
     asked: Asked<'_>,
     listed: &Listed,
-) -> Result<(), AllocError> {
+) -> Made<()> {
     let grammar = asked.file.path;
     let list = asked.accepted.accept.unwrap_or(grammar);
     if listed.is_updated {
@@ -135,7 +135,7 @@ fn add_warnings(
     all: &mut Vec<Diagnostic>,
     asked: Asked<'_>,
     opened: &Opened,
-) -> Result<bool, AllocError> {
+) -> Made<bool> {
     let warnings = warnings_of(alloc, &opened.tables, &opened.lines)?;
     for warning in &warnings {
         let (path, spot, message) = (Some(asked.file.path), warning.spot, warning.text.clone()?);

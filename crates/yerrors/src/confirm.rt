@@ -1,8 +1,9 @@
 //! A list of tokens put into a session, which goes on until an error is detected.
 
-use std::alloc::{AllocError, Global};
+use std::alloc::Global;
 use std::io;
 use ycounterexample::trial::{go_back, put_all, step};
+use yexplain::reads::Made;
 use yinput::expected::{Wanted, expected_within, states_after};
 use ylalr::END;
 use yparse::Session;
@@ -83,7 +84,7 @@ fn detects_in(session: &mut Session, tokens: &[Sym], last: Sym, state: usize) ->
 }
 
 /// The symbols of the stack.
-fn stack_of(alloc: Global, session: &Session) -> Result<Vec<Sym>, AllocError> {
+fn stack_of(alloc: Global, session: &Session) -> Made<Vec<Sym>> {
     let mut stack = Vec::new(alloc);
     for index in 0..session.view().stack_len() {
         stack.push(stack_symbol(session, index))?;
@@ -92,12 +93,7 @@ fn stack_of(alloc: Global, session: &Session) -> Result<Vec<Sym>, AllocError> {
 }
 
 /// The tokens that could come after some tokens.
-fn wanted_after(
-    alloc: Global,
-    tables: &Tables,
-    tokens: &[Sym],
-    left: &mut Left,
-) -> Result<Wanted, AllocError> {
+fn wanted_after(alloc: Global, tables: &Tables, tokens: &[Sym], left: &mut Left) -> Made<Wanted> {
     let states = states_after(alloc, tables, tokens)?;
     let most = left.part();
     let mut rest = most;

@@ -11,15 +11,14 @@ use crate::rows::{Key, Level, Part, Spot, Taken};
 use crate::search::{Search, state_key};
 use crate::sets::Source;
 use crate::ways::{moved_back, moved_on};
-use std::alloc::AllocError;
-use yexplain::reads::{action_of, is_complete};
+use yexplain::reads::{Made, action_of, is_complete};
 use ylalr::{Item, token_count};
 use ysymbols::Sym;
 use ytables::Action;
 
 impl Search<'_> {
     /// Finds all that there is, and says whether it was found within the steps.
-    pub fn run(&mut self) -> Result<bool, AllocError> {
+    pub fn run(&mut self) -> Made<bool> {
         self.begin()?;
         // ends: each row gets each token once
         for _ in 0..usize::MAX {
@@ -35,7 +34,7 @@ impl Search<'_> {
     }
 
     /// Goes on from the new level of a row.
-    fn leave(&mut self, row: usize, level: Level) -> Result<(), AllocError> {
+    fn leave(&mut self, row: usize, level: Level) -> Made<()> {
         let Some(Key { spot, first }) = self.rows.key(row) else {
             return Ok(());
         };
@@ -57,7 +56,7 @@ impl Search<'_> {
         (state, item): (usize, Item),
         first: Option<Sym>,
         level: Level,
-    ) -> Result<(), AllocError> {
+    ) -> Made<()> {
         let symbol = self.ways.symbol(state);
         let is_token = self.ways.grammar().is_token(symbol);
         for place in 0..self.ways.count_before(state) {
@@ -78,7 +77,7 @@ impl Search<'_> {
         (before, item): (usize, Item),
         (token, state): (Sym, usize),
         level: Level,
-    ) -> Result<(), AllocError> {
+    ) -> Made<()> {
         if !self.ways.shifts(before, token, state) {
             return Ok(());
         }
@@ -102,7 +101,7 @@ impl Search<'_> {
         (before, item): (usize, Item),
         (symbol, first): (Sym, Sym),
         level: Level,
-    ) -> Result<(), AllocError> {
+    ) -> Made<()> {
         let number = self.ways.gotos.number(before, symbol);
         let Some(spot) = number.and_then(|number| self.rows.spot(Spot::Goto(number))) else {
             return Ok(());
@@ -138,12 +137,7 @@ impl Search<'_> {
 /// From rows of gotos.
 impl Search<'_> {
     /// Goes on from a goto to the items before its nonterminal, and to the state that it leads to.
-    fn leave_goto(
-        &mut self,
-        (row, number): (usize, usize),
-        first: Sym,
-        level: Level,
-    ) -> Result<(), AllocError> {
+    fn leave_goto(&mut self, (row, number): (usize, usize), first: Sym, level: Level) -> Made<()> {
         let Some((state, to)) = self.ways.gotos.ends(number) else {
             return Ok(());
         };
@@ -163,7 +157,7 @@ impl Search<'_> {
         key: Option<Key>,
         (to, rest): (usize, Item),
         level: Level,
-    ) -> Result<(), AllocError> {
+    ) -> Made<()> {
         if is_complete(self.ways.grammar(), rest) {
             return self.leave_goto_by(row, key, (to, rest.rule), level);
         }
@@ -185,7 +179,7 @@ impl Search<'_> {
         key: Option<Key>,
         (to, rule): (usize, usize),
         level: Level,
-    ) -> Result<(), AllocError> {
+    ) -> Made<()> {
         let Some(mask) = self.mask(to, rule) else {
             return Ok(());
         };
@@ -206,7 +200,7 @@ impl Search<'_> {
         key: Option<Key>,
         (row, level): (usize, Level),
         (other, ahead): (usize, Sym),
-    ) -> Result<(), AllocError> {
+    ) -> Made<()> {
         self.rows.spend(1);
         if !self.rows.sets.has(level.at, ahead) {
             return Ok(());
@@ -231,7 +225,7 @@ impl Search<'_> {
         (state, to): (usize, usize),
         first: Sym,
         level: Level,
-    ) -> Result<(), AllocError> {
+    ) -> Made<()> {
         let Some(way) = self.rows.find(state_key(state)) else {
             return Ok(());
         };
@@ -245,11 +239,7 @@ impl Search<'_> {
 /// From rows of states.
 impl Search<'_> {
     /// Goes on from a state: over the tokens ahead, and over its nonterminals.
-    fn leave_state(
-        &mut self,
-        (row, state): (usize, usize),
-        level: Level,
-    ) -> Result<(), AllocError> {
+    fn leave_state(&mut self, (row, state): (usize, usize), level: Level) -> Made<()> {
         let tokens = token_count(self.ways.grammar());
         self.rows.spend(tokens);
         for token in 0..tokens {
@@ -265,12 +255,7 @@ impl Search<'_> {
     }
 
     /// Goes on over a token, or notes that it is an error.
-    fn meet(
-        &mut self,
-        (row, state): (usize, usize),
-        token: Sym,
-        cost: u64,
-    ) -> Result<(), AllocError> {
+    fn meet(&mut self, (row, state): (usize, usize), token: Sym, cost: u64) -> Made<()> {
         let inputs = self.inputs;
         let taken = Taken {
             first: Part::Row(row, token),
@@ -287,11 +272,7 @@ impl Search<'_> {
     }
 
     /// Goes on over a nonterminal.
-    fn leave_state_by(
-        &mut self,
-        (row, level): (usize, Level),
-        number: usize,
-    ) -> Result<(), AllocError> {
+    fn leave_state_by(&mut self, (row, level): (usize, Level), number: usize) -> Made<()> {
         let spot = self.rows.spot(Spot::Goto(number));
         let (Some((_, to)), Some(spot)) = (self.ways.gotos.ends(number), spot) else {
             return Ok(());

@@ -12,7 +12,7 @@ use std::alloc::{AllocError, Global};
 use std::io::{self, Write};
 use yerrors::confirm::{Confirmed, Left, confirm};
 use yerrors::errors::Errors;
-use yexplain::reads::grammar_of;
+use yexplain::reads::{Made, grammar_of};
 use ylex::writer::Writer;
 use yparse::Session;
 use ysymbols::Sym;
@@ -53,7 +53,7 @@ pub struct New {
 }
 
 /// A copy of some tokens.
-fn copied(alloc: Global, tokens: &[Sym]) -> Result<Vec<Sym>, AllocError> {
+fn copied(alloc: Global, tokens: &[Sym]) -> Made<Vec<Sym>> {
     let mut copy = Vec::with_capacity(alloc, tokens.len())?;
     copy.extend_from_slice(tokens)?;
     Ok(copy)

@@ -2,8 +2,9 @@
 
 use crate::record::{Record, Start};
 use indexmap::IndexSet;
-use std::alloc::{AllocError, Global};
+use std::alloc::Global;
 use std::io::{self, ErrorKind};
+use yexplain::reads::Made;
 use yinput::Parse;
 use yparse::machine::{StepFault, StepKind};
 use ysymbols::{Sym, let_go};
@@ -75,7 +76,7 @@ fn skip(parse: &mut Parse, position: usize) -> io::Result<()> {
 
 impl Walk<'_> {
     /// Notes the cell that says what is done next.
-    fn note_cell(&mut self) -> Result<(), AllocError> {
+    fn note_cell(&mut self) -> Made<()> {
         let session = self.parse.session();
         let mut number = None;
         if is_running(session) {

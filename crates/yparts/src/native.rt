@@ -1,9 +1,10 @@
 //! The parts of a file that `yacc` reads, by its source map.
 
 use crate::parts::{Block, Parts, Piece, Target};
-use std::alloc::{AllocError, Global};
+use std::alloc::Global;
 use std::mem;
 use yexplain::lines::{Spots, symbol_of};
+use yexplain::reads::Made;
 use ylexemes::part::Lexeme;
 use ysourcemap::{Mark, Role};
 use ysymbols::{Grammar, Sym, let_go};
@@ -46,7 +47,7 @@ impl<'a> Gather<'a, '_> {
     }
 
     /// Takes in code.
-    fn take_text(&mut self, target: Target, from: usize, to: usize) -> Result<(), AllocError> {
+    fn take_text(&mut self, target: Target, from: usize, to: usize) -> Made<()> {
         let piece = self.piece(from, to);
         self.parts.blocks.push(Block { target, piece })?;
         Ok(())
@@ -69,7 +70,7 @@ impl<'a> Gather<'a, '_> {
     }
 
     /// Takes in a lexeme.
-    fn take(&mut self, mark: &Mark<'a>) -> Result<(), AllocError> {
+    fn take(&mut self, mark: &Mark<'a>) -> Made<()> {
         let (lexeme, at, end) = (mark.placed.lexeme, mark.placed.at, mark.placed.end);
         match (mark.role, lexeme) {
             (Role::Block, _) => {
@@ -99,7 +100,7 @@ pub fn parts_of<'a>(
     source: &'a [u8],
     grammar: &Grammar,
     marks: &[Mark<'a>],
-) -> Result<Parts<'a>, AllocError> {
+) -> Made<Parts<'a>> {
     let mut gather = Gather {
         source,
         grammar,

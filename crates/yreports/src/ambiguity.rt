@@ -3,11 +3,12 @@
 
 use crate::ambiguity_text::AmbiguityText;
 use crate::blocks::Entry;
-use std::alloc::{AllocError, Global};
+use std::alloc::Global;
 use std::io::Write;
 use yambiguity::answer::{Ambiguities, Answer, Rivals};
 use yambiguity::choice::{Cell, Choice};
 use ycounterexample::finding::{Allows, Finding, Seeker};
+use yexplain::reads::Made;
 use yview::page::Page;
 
 /// The most rules of a block that are set against what is taken.
@@ -44,7 +45,7 @@ fn answer_of(
     found: &mut Ambiguities,
     allows: Option<Allows>,
     rivals: Rivals,
-) -> Result<Option<Answer>, AllocError> {
+) -> Made<Option<Answer>> {
     let tables = seeker.session.tables();
     let answer = match allows {
         Some(Allows::Both) => found.seek_both(tables, &mut seeker.finder, rivals)?,
@@ -62,7 +63,7 @@ pub fn answers_of(
     found: &mut Ambiguities,
     entry: &Entry,
     finding: &Finding,
-) -> Result<Vec<Answer>, AllocError> {
+) -> Made<Vec<Answer>> {
     let mut answers = Vec::new(alloc);
     for rule in entry.kind.others().iter().take(MOST_RULES) {
         let rivals = Rivals {
@@ -96,7 +97,7 @@ pub fn put_answers<W: Write>(
     page: &mut Page<W>,
     text: AmbiguityText<'_>,
     answers: &[Answer],
-) -> Result<(), AllocError> {
+) -> Made<()> {
     for answer in answers {
         if let Some(twins) = &answer.twins {
             return text.put_twins(alloc, page, twins);

@@ -1,11 +1,12 @@
 //! Sentences and trees for the rivals of a conflict, as they are written.
 
-use std::alloc::{AllocError, Global};
+use std::alloc::Global;
 use std::io::Write;
 use yambiguity::answer::{Answer, Sentence, Twins};
 use yambiguity::choice::Choice;
 use yambiguity::trees::{Node, Trees};
 use yexplain::lines::Lines;
+use yexplain::reads::Made;
 use yexplain::text::{Name, Names, Numbered};
 use ysymbols::{Grammar, Sym};
 use yview::page::Page;
@@ -144,7 +145,7 @@ impl AmbiguityText<'_> {
         page: &mut Page<W>,
         tree: usize,
         dot: usize,
-    ) -> Result<(), AllocError> {
+    ) -> Made<()> {
         let mut open = Vec::new(alloc);
         open.push((0usize, tree))?;
         let mut drawn = Drawn {
@@ -174,12 +175,7 @@ impl AmbiguityText<'_> {
     }
 
     /// Puts the children of a tree on those that are to be drawn, the first one last.
-    fn push_children(
-        self,
-        open: &mut Vec<(usize, usize)>,
-        level: usize,
-        tree: usize,
-    ) -> Result<(), AllocError> {
+    fn push_children(self, open: &mut Vec<(usize, usize)>, level: usize, tree: usize) -> Made<()> {
         for child in self.trees.children(tree).iter().rev() {
             open.push((level.saturating_add(1), *child))?;
         }
@@ -187,12 +183,7 @@ impl AmbiguityText<'_> {
     }
 
     /// Writes a sentence with two trees.
-    pub fn put_twins<W: Write>(
-        self,
-        alloc: Global,
-        page: &mut Page<W>,
-        twins: &Twins,
-    ) -> Result<(), AllocError> {
+    pub fn put_twins<W: Write>(self, alloc: Global, page: &mut Page<W>, twins: &Twins) -> Made<()> {
         page.put("  The grammar is ambiguous: two trees for");
         self.put_tokens(page, &twins.sentence);
         self.put_choice(page, twins.sentence.choice);
@@ -209,7 +200,7 @@ impl AmbiguityText<'_> {
         page: &mut Page<W>,
         answer: &Answer,
         written: &mut Vec<Choice>,
-    ) -> Result<(), AllocError> {
+    ) -> Made<()> {
         for sentence in &answer.sentences {
             if !written.contains(&sentence.choice) {
                 self.put_choice(page, sentence.choice);

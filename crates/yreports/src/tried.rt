@@ -1,9 +1,10 @@
 //! Cells with conflicts, and how many they would count with other precedences.
 
-use std::alloc::{AllocError, Global};
+use std::alloc::Global;
 use ycells::{Rival, settle};
 use ycounterexample::groups::{Conflicts, Group, Kind};
 use yexplain::lines::Lines;
+use yexplain::reads::Made;
 use yexplain::supposed::Supposed;
 use yexplain::why::Question;
 use ysymbols::{Grammar, Sym};
@@ -38,7 +39,7 @@ pub struct Marks {
 
 impl Marks {
     /// Nothing is marked.
-    pub fn new(alloc: Global, grammar: &Grammar) -> Result<Marks, AllocError> {
+    pub fn new(alloc: Global, grammar: &Grammar) -> Made<Marks> {
         Ok(Marks {
             tokens: vec![in alloc; false; grammar.symbols()]?,
             rules: vec![in alloc; false; grammar.rules()]?,
@@ -98,7 +99,7 @@ pub fn tried_of(
     tables: &Tables,
     lines: &Lines,
     found: &Conflicts,
-) -> Result<Vec<Tried>, AllocError> {
+) -> Made<Vec<Tried>> {
     let mut cells = Vec::new(alloc);
     for (kind, group) in &found.groups {
         let asked = kind.cell(*group, tables, lines);

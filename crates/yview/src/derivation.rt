@@ -2,9 +2,9 @@
 
 use crate::page::Page;
 use crate::reading::{MOST_NODES, child_of, name_of, tree_at, upcoming_token};
-use std::alloc::{AllocError, Global};
+use std::alloc::Global;
 use std::io::Write;
-use yexplain::reads::{grammar_of, left_of};
+use yexplain::reads::{Made, grammar_of, left_of};
 use ylalr::{END, ERROR};
 use yparse::{Session, TreeNode, TreeView};
 use ysymbols::{Grammar, Sym, let_go};
@@ -40,7 +40,7 @@ fn symbol_of(grammar: &Grammar, node: TreeNode) -> Sym {
 
 impl<'a> Form<'a> {
     /// The form of the configuration now.
-    fn now(alloc: Global, session: &'a Session) -> Result<Form<'a>, AllocError> {
+    fn now(alloc: Global, session: &'a Session) -> Made<Form<'a>> {
         let view = session.view();
         Ok(Form {
             trees: (0..view.stack_len())
@@ -54,7 +54,7 @@ impl<'a> Form<'a> {
     }
 
     /// The children of a tree come in its place.
-    fn open(&mut self, tree: &TreeView<'a>) -> Result<(), AllocError> {
+    fn open(&mut self, tree: &TreeView<'a>) -> Made<()> {
         for index in 0..tree.children() {
             if let Some(child) = child_of(tree, index) {
                 self.trees.push(child)?;
@@ -65,7 +65,7 @@ impl<'a> Form<'a> {
 
     /// Takes the last tree: a rule is replaced by its body, which makes another form, and anything
     /// else moves to the tokens. `None` where there are no more trees.
-    fn expand(&mut self, grammar: &Grammar) -> Result<Option<bool>, AllocError> {
+    fn expand(&mut self, grammar: &Grammar) -> Made<Option<bool>> {
         let Some(tree) = self.trees.pop() else {
             return Ok(None);
         };
@@ -137,7 +137,7 @@ fn line_of(width: u64) -> u64 {
 }
 
 /// How many bytes all forms take.
-pub fn size_of_derivation(alloc: Global, session: &Session) -> Result<u64, AllocError> {
+pub fn size_of_derivation(alloc: Global, session: &Session) -> Made<u64> {
     let grammar = grammar_of(session.tables());
     let mut form = Form::now(alloc, session)?;
     let mut width = form.width(grammar);
@@ -163,7 +163,7 @@ fn put_forms<W: Write>(
     grammar: &Grammar,
     form: &mut Form<'_>,
     most: usize,
-) -> Result<(), AllocError> {
+) -> Made<()> {
     let mut written = 1usize;
     for _ in 0..=MOST_NODES {
         if page.checked().is_err() {
@@ -191,7 +191,7 @@ pub fn put_derivation<W: Write>(
     page: &mut Page<W>,
     session: &Session,
     most: usize,
-) -> Result<(), AllocError> {
+) -> Made<()> {
     let grammar = grammar_of(session.tables());
     let mut form = Form::now(alloc, session)?;
     form.put(page, grammar);
