@@ -131,14 +131,12 @@ fn changes_of(
 ) -> Made<Vec<Change>> {
     let mut classes = Classes::new(alloc, grammar.symbols())?;
     let mut changes = Vec::new(alloc);
-    for cell in cells
-        .iter()
-        .filter(|cell| cell.shift.is_some() && cell.token != END)
-    {
-        for rule in cell.rules() {
+    let contests = cells.iter().map(|cell| cell.contest);
+    for contest in contests.filter(|it| it.shift.is_some() && it.token != END) {
+        for rule in contest.rules().unwrap_or(&[]) {
             match lines.giver(grammar, *rule) {
-                Some(giver) => classes.note(grammar, cell.token, giver),
-                None => push_own(alloc, grammar, &mut changes, *rule, cell.token)?,
+                Some(giver) => classes.note(grammar, contest.token, giver),
+                None => push_own(alloc, grammar, &mut changes, *rule, contest.token)?,
             }
         }
     }
