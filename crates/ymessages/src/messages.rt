@@ -56,27 +56,6 @@ fn claims_of<E: Write>(
     }
 }
 
-/// The bytes of a file, or the exit status where it isn't read, which is then said.
-pub(crate) fn bytes_of<F: Files + AllocGlobal, E: Write>(
-    rt: &F,
-    file: Limited<'_>,
-    errors: &mut E,
-) -> io::Result<Result<Vec<u8>, u8>> {
-    match file.bytes(rt) {
-        Ok(Some(bytes)) => Ok(Ok(bytes)),
-        Ok(None) => {
-            file.put_long_input(rt, errors)?;
-            Ok(Err(1))
-        }
-        Err(error) if error.kind() == ErrorKind::OutOfMemory => Err(error),
-        Err(_) => {
-            let path = file.path;
-            writeln!(errors, "ydebug: cannot read {path}")?;
-            Ok(Err(3))
-        }
-    }
-}
-
 /// Whether each line of a part is a comment or an input.
 fn are_read(alloc: Global, inputs: Inputs<'_>, source: &[u8], part: &Part) -> io::Result<bool> {
     for line in &part.lines {
@@ -174,7 +153,7 @@ impl Messages {
         file: Limited<'_>,
         errors: &mut E,
     ) -> io::Result<Result<Messages, u8>> {
-        let bytes = match bytes_of(rt, file, errors)? {
+        let bytes = match file.bytes_or_status(rt, true, errors)? {
             Ok(bytes) => bytes,
             Err(status) => return Ok(Err(status)),
         };
@@ -189,7 +168,7 @@ impl Messages {
         (file, columns): (Limited<'_>, bool),
         errors: &mut E,
     ) -> io::Result<Result<Messages, u8>> {
-        let bytes = match bytes_of(rt, file, errors)? {
+        let bytes = match file.bytes_or_status(rt, true, errors)? {
             Ok(bytes) => bytes,
             Err(status) => return Ok(Err(status)),
         };
