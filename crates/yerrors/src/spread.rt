@@ -62,8 +62,8 @@ impl Search<'_> {
         for place in 0..self.ways.count_before(state) {
             let before = (self.ways.state_before(state, place), moved_back(item));
             match first {
-                _ if is_token => self.leave_token(row, before, (symbol, state), level)?,
-                Some(first) => self.leave_over(row, before, (symbol, first), level)?,
+                _ if is_token => self.leave_token((row, level), before, (symbol, state))?,
+                Some(first) => self.leave_over((row, level), before, (symbol, first))?,
                 None => {}
             }
         }
@@ -73,10 +73,9 @@ impl Search<'_> {
     /// Goes on to one before a token, which has to be shifted.
     fn leave_token(
         &mut self,
-        row: usize,
+        (row, level): (usize, Level),
         (before, item): (usize, Item),
         (token, state): (Sym, usize),
-        level: Level,
     ) -> Made<()> {
         if !self.ways.shifts(before, token, state) {
             return Ok(());
@@ -97,10 +96,9 @@ impl Search<'_> {
     /// Goes on to one before a nonterminal, which leaves the first token of the rest ahead.
     fn leave_over(
         &mut self,
-        row: usize,
+        (row, level): (usize, Level),
         (before, item): (usize, Item),
         (symbol, first): (Sym, Sym),
-        level: Level,
     ) -> Made<()> {
         let number = self.ways.gotos.number(before, symbol);
         let Some(spot) = number.and_then(|number| self.rows.spot(Spot::Goto(number))) else {

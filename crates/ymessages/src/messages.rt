@@ -4,10 +4,11 @@ use crate::claims::Claims;
 use crate::file::{Cut, Part, is_comment, parts_of};
 use crate::inputs::Inputs;
 use crate::refusal::Source;
+use crate::slots::{Slot, slots_of};
 use std::alloc::Global;
 use std::io::{self, ErrorKind, Write};
 use std::rt::Files;
-use yexplain::reads::grammar_of;
+use yexplain::reads::{Made, grammar_of};
 use yfiles::reading::Limited;
 use yinput::language::Language;
 use ytables::Tables;
@@ -186,5 +187,13 @@ impl Messages {
         let claim = self.claims.all.get(self.claims.owner(state)?)?;
         let span = self.parts.get(claim.part)?.message?;
         Some(span.of(&self.bytes))
+    }
+
+    /// The pieces of the message of a state, where it has one.
+    pub fn slots(&self, alloc: Global, state: usize) -> Made<Option<Vec<Slot<'_>>>> {
+        match self.of(state) {
+            Some(message) => slots_of(alloc, message).map(Some),
+            None => Ok(None),
+        }
     }
 }

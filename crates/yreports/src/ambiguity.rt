@@ -46,13 +46,15 @@ fn answer_of(
     allows: Option<Allows>,
     rivals: Rivals,
 ) -> Made<Option<Answer>> {
-    let tables = seeker.session.tables();
-    let answer = match allows {
-        Some(Allows::Both) => found.seek_both(tables, &mut seeker.finder, rivals)?,
-        Some(Allows::One) => found.seek_each(tables, &mut seeker.finder, rivals)?,
+    let are_both = match allows {
+        Some(Allows::Both) => true,
+        Some(Allows::One) => false,
         Some(Allows::Found) | None => return Ok(None),
     };
-    Ok(Some(answer))
+    let tables = seeker.session.tables();
+    found
+        .seek(tables, &mut seeker.finder, (rivals, are_both))
+        .map(Some)
 }
 
 /// What can be found for the first conflict of a block: for what is taken and each of the first

@@ -41,10 +41,12 @@ struct Drawn {
     line: Option<usize>,
 }
 
-/// Writes a period where the conflict is.
-fn put_dot<W: Write>(page: &mut Page<W>, drawn: Drawn) {
-    if drawn.leaves == drawn.dot {
-        page.put(" .");
+impl Drawn {
+    /// Ends the line of leaves, where one is begun.
+    fn end_line<W: Write>(self, page: &mut Page<W>) {
+        if self.line.is_some() {
+            page.end();
+        }
     }
 }
 
@@ -86,18 +88,11 @@ impl AmbiguityText<'_> {
     }
 
     /// Writes a leaf, on the line of the leaves beside it.
-    fn put_leaf<W: Write>(
-        self,
-        page: &mut Page<W>,
-        drawn: Drawn,
-        level: usize,
-        symbol: Sym,
-    ) -> Drawn {
-        let mut drawn = drawn;
+    fn put_leaf<W: Write>(self, page: &mut Page<W>, drawn: &mut Drawn, level: usize, symbol: Sym) {
         if drawn.line == Some(level) {
             page.put(" ");
         } else {
-            self.end_line(page, drawn);
+            drawn.end_line(page);
             begin(page, level);
         }
         if drawn.leaves == 0 && drawn.dot == 0 {
@@ -106,36 +101,21 @@ impl AmbiguityText<'_> {
         let _ = write!(page, "{}", Name(self.grammar, symbol));
         drawn.leaves = drawn.leaves.saturating_add(1);
         drawn.line = Some(level);
-        put_dot(page, drawn);
-        drawn
-    }
-
-    /// Ends the line of leaves, where one is begun.
-    fn end_line<W: Write>(self, page: &mut Page<W>, drawn: Drawn) {
-        if drawn.line.is_some() {
-            page.end();
+        if drawn.leaves == drawn.dot {
+            page.put(" .");
         }
     }
 
     /// Writes the root of a tree: its left side and its rule.
-    fn put_root<W: Write>(
-        self,
-        page: &mut Page<W>,
-        drawn: Drawn,
-        level: usize,
-        node: Node,
-    ) -> Drawn {
-        self.end_line(page, drawn);
+    fn put_root<W: Write>(self, page: &mut Page<W>, drawn: &mut Drawn, level: usize, node: Node) {
+        drawn.end_line(page);
         begin(page, level);
         let _ = write!(page, "{}", Name(self.grammar, node.symbol));
         if let Some(rule) = node.rule {
             let _ = write!(page, "  rule {rule}");
         }
         page.end();
-        Drawn {
-            line: None,
-            ..drawn
-        }
+        drawn.line = None;
     }
 
     /// Draws a tree: each rule on a line, its children below it, leaves beside one another.
@@ -161,13 +141,13 @@ impl AmbiguityText<'_> {
                 break;
             };
             if node.stands {
-                drawn = self.put_leaf(page, drawn, level, node.symbol);
+                self.put_leaf(page, &mut drawn, level, node.symbol);
             } else {
-                drawn = self.put_root(page, drawn, level, node);
+                self.put_root(page, &mut drawn, level, node);
                 self.push_children(&mut open, level, tree)?;
             }
         }
-        self.end_line(page, drawn);
+        drawn.end_line(page);
         if !open.is_empty() {
             page.line("    ..");
         }
