@@ -142,7 +142,7 @@ impl Search<'_> {
         for index in 0..self.ways.gotos.items(number).len() {
             if let Some(item) = self.ways.gotos.items(number).get(index).copied() {
                 let key = self.key_of(state, item, first);
-                self.leave_goto_in(row, key, (to, moved_on(item)), level)?;
+                self.leave_goto_in((row, level), key, (to, moved_on(item)))?;
             }
         }
         self.leave_goto_to(row, (state, to), first, level)
@@ -151,13 +151,12 @@ impl Search<'_> {
     /// Goes on to an item before the nonterminal, after which it is this one in the other state.
     fn leave_goto_in(
         &mut self,
-        row: usize,
+        (row, level): (usize, Level),
         key: Option<Key>,
         (to, rest): (usize, Item),
-        level: Level,
     ) -> Made<()> {
         if is_complete(self.ways.grammar(), rest) {
-            return self.leave_goto_by(row, key, (to, rest.rule), level);
+            return self.leave_goto_by((row, level), key, (to, rest.rule));
         }
         let Some(spot) = self.rows.spot(Spot::Rest(to, rest)) else {
             return Ok(());
@@ -173,10 +172,9 @@ impl Search<'_> {
     /// Reduces the rule of an item whose last symbol the nonterminal is, in the state of the goto.
     fn leave_goto_by(
         &mut self,
-        row: usize,
+        (row, level): (usize, Level),
         key: Option<Key>,
         (to, rule): (usize, usize),
-        level: Level,
     ) -> Made<()> {
         let Some(mask) = self.mask(to, rule) else {
             return Ok(());

@@ -75,10 +75,8 @@ impl<'a> Rivals<'a> {
     /// The cell that is asked for.
     pub fn new(asked: Question<'a>) -> Rivals<'a> {
         let shift = asked.shift().unwrap_or(Action::Error);
-        let contest = Contest {
-            shift: Some(shift),
-            ..Contest::of(asked)
-        };
+        let mut contest = Contest::of(asked);
+        contest.shift = Some(shift);
         Rivals {
             asked,
             shift,

@@ -107,10 +107,33 @@ impl Found {
         })
     }
 
+    /// What a file of a path is written with, by what is confirmed of its inputs.
+    fn update<'a>(
+        &'a self,
+        alloc: Global,
+        path: &'a str,
+        confirmed: &'a [Option<Confirmed>],
+    ) -> Update<'a> {
+        Update {
+            alloc,
+            path,
+            tables: self.session.tables(),
+            errors: &self.errors,
+            told: self.told.as_ref(),
+            messages: &self.messages,
+            confirmed,
+            writer: self.writer.as_ref(),
+        }
+    }
+
     /// Writes the file anew, and says which states are new.
     fn put<W: Write>(&mut self, alloc: Global, path: &str, out: &mut W) -> io::Result<New> {
         let confirmed = confirm_all(alloc, &mut self.session, &self.messages)?;
-        put_file(alloc, &*self, path, &confirmed, out)
+        let update = self.update(alloc, path, &confirmed);
+        let mut page = Page::new(&mut *out, false);
+        let new = update.put(&mut page);
+        page.checked()?;
+        new
     }
 
     /// Writes the states that have no message, each with an input for it, and says how many they
@@ -121,16 +144,7 @@ impl Found {
         path: &str,
         errors: &mut E,
     ) -> io::Result<usize> {
-        let update = Update {
-            alloc,
-            path,
-            tables: self.session.tables(),
-            errors: &self.errors,
-            told: self.told.as_ref(),
-            messages: &self.messages,
-            confirmed: &[],
-            writer: self.writer.as_ref(),
-        };
+        let update = self.update(alloc, path, &[]);
         let mut count: usize = 0;
         for state in 0..self.errors.outcomes.len() {
             if let Some(confirmed) = update.new_list(state) {
@@ -140,32 +154,6 @@ impl Found {
         }
         Ok(count)
     }
-}
-
-/// Writes a file anew, with what is confirmed of its inputs, and says which states are new.
-fn put_file<'a, W: Write>(
-    alloc: Global,
-    found: &'a Found,
-    path: &'a str,
-    confirmed: &'a [Option<Confirmed>],
-    out: &mut W,
-) -> io::Result<New> {
-    let told = found.told.as_ref();
-    let writer = found.writer.as_ref();
-    let update = Update {
-        alloc,
-        path,
-        tables: found.session.tables(),
-        errors: &found.errors,
-        told,
-        messages: &found.messages,
-        confirmed,
-        writer,
-    };
-    let mut page = Page::new(&mut *out, false);
-    let new = update.put(&mut page);
-    page.checked()?;
-    new
 }
 
 /// Writes that a state has no message, with an input for it, or that no text is found for one.
