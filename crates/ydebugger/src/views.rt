@@ -22,7 +22,7 @@ use ysymbols::{Grammar, Sym};
 use yview::derivation::{SOME_FORMS, put_derivation, size_of_derivation};
 use yview::grammar_view::Rules;
 use yview::page::Page;
-use yview::reading::{last_rule, last_state, name_of, stack_state, token_ahead};
+use yview::reading::{last_rule, last_state, name_of, states_of_stack, token_ahead};
 use yview::state_view::put_state;
 use yview::symbol_view::put_symbol;
 use yview::tree_text::{SOME_LINES, put_tree, put_trees};
@@ -65,16 +65,6 @@ fn put_why<W: Write>(alloc: Global, page: &mut Page<W>, asked: Question<'_>) -> 
     let reasons = Reasons::of(alloc, asked.tables.automaton())?;
     let _ = asked.put_sources(page, &sources_of(alloc, &reasons, asked)?);
     Ok(())
-}
-
-/// The states of the stack from the bottom, the first state below it.
-fn states_of_stack(alloc: Global, session: &Session) -> Made<Vec<usize>> {
-    let mut states = Vec::new(alloc);
-    states.push(0)?;
-    for index in 0..session.view().stack_len() {
-        states.push(stack_state(session, index))?;
-    }
-    Ok(states)
 }
 
 /// Tokens by name, as a list that ends its last line.
