@@ -14,7 +14,6 @@ use yexplain::sources::sources_of;
 use yexplain::why::{Question, explain};
 use yinput::Parse;
 use yinput::expected::{Wanted, expected};
-use yparse::Session;
 use yparse::machine::Mode;
 use yreasons::Reasons;
 use yreports::kinds::{put_counts, put_named, put_states};

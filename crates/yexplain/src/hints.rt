@@ -10,7 +10,7 @@ use std::io::{self, Write};
 use ycells::Candidate;
 use ylalr::END;
 use ysymbols::{Associativity, Sym};
-use ytables::{Action, Standing};
+use ytables::Standing;
 
 impl Rivals<'_> {
     /// Writes how precedences of all rules choose, which is always so.

@@ -184,6 +184,14 @@ fn names_symbol(role: Role) -> bool {
     )
 }
 
+/// The name that a lexeme is, where it is one.
+pub fn name_in(lexeme: Lexeme<'_>) -> Option<&[u8]> {
+    match lexeme {
+        Lexeme::Name(name) | Lexeme::CIdentifier(name) => Some(name),
+        _ => None,
+    }
+}
+
 /// The symbol that a lexeme names.
 pub fn symbol_of(grammar: &Grammar, lexeme: Lexeme<'_>) -> Option<Sym> {
     match lexeme {

@@ -12,10 +12,9 @@ use std::alloc::{AllocError, Global};
 use std::io::{self, Write};
 use yerrors::confirm::{Confirmed, Left, confirm};
 use yerrors::errors::Errors;
-use yexplain::reads::{Made, grammar_of};
+use yexplain::reads::grammar_of;
 use ylex::writer::Writer;
 use yparse::Session;
-use ysymbols::Sym;
 use ytables::Tables;
 use yview::page::Page;
 
@@ -52,13 +51,6 @@ pub struct New {
     pub untold: usize,
 }
 
-/// A copy of some tokens.
-fn copied(alloc: Global, tokens: &[Sym]) -> Made<Vec<Sym>> {
-    let mut copy = Vec::with_capacity(alloc, tokens.len())?;
-    copy.extend_from_slice(tokens)?;
-    Ok(copy)
-}
-
 /// What a session has of an input; nothing where its last token is no error.
 fn confirmed_of(
     alloc: Global,
@@ -69,7 +61,7 @@ fn confirmed_of(
     match claim.state() {
         Some(state) => {
             let (tokens, last) = claim.input.list();
-            let list = (copied(alloc, tokens)?, last);
+            let list = (Vec::from_slice(alloc, tokens)?, last);
             confirm(alloc, session, list, state, left)
         }
         None => Ok(None),

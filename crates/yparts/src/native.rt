@@ -3,7 +3,7 @@
 use crate::parts::{Block, Parts, Piece, Target};
 use std::alloc::Global;
 use std::mem;
-use yexplain::lines::{Spots, symbol_of};
+use yexplain::lines::{Spots, name_in, symbol_of};
 use yexplain::reads::Made;
 use ylexemes::part::Lexeme;
 use ysourcemap::{Mark, Role};
@@ -25,14 +25,6 @@ impl Drop for Gather<'_, '_> {
     // A call in each owner, which keeps their proofs short.
     fn drop(self) {
         let_go!(self: Gather { source, grammar, spots, parts, actions, tag, marks });
-    }
-}
-
-/// The name of a lexeme, where it is one.
-fn name_in(lexeme: Lexeme<'_>) -> Option<&[u8]> {
-    match lexeme {
-        Lexeme::Name(name) | Lexeme::CIdentifier(name) => Some(name),
-        _ => None,
     }
 }
 

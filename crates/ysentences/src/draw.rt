@@ -3,6 +3,7 @@
 use crate::numbers::Numbers;
 use crate::seek::MOST_TOKENS;
 use std::alloc::Global;
+use ycounterexample::costs::push_back;
 use ycounterexample::search::Finder;
 use yexplain::reads::{Made, body_of};
 use ylalr::Automaton;
@@ -26,14 +27,6 @@ struct Drawing {
     least: u64,
     /// How many there may be.
     most: u64,
-}
-
-/// Adds symbols, the first of them last.
-fn push_back(open: &mut Vec<Sym>, form: &[Sym]) -> Made<()> {
-    for symbol in form.iter().rev() {
-        open.push(*symbol)?;
-    }
-    Ok(())
 }
 
 impl Drawing {
