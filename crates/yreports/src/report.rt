@@ -24,7 +24,6 @@ use ycounterexample::trial::empty_session;
 use yexplain::lines::Lines;
 use yexplain::reads::{Made, grammar_of};
 use yexplain::sources::{Source, sources_of};
-use yexplain::why::explain;
 use yfaults::opening::Opened;
 use yparse::Session;
 use yreasons::Reasons;
