@@ -214,11 +214,7 @@ fn is_expected<E: Write>(
     if !expected.any() {
         return Ok(None);
     }
-    let counts = counted.opened.tables.conflicts();
-    let found = Counts {
-        shift_reduce: usize::try_from(counts.shift_reduce).unwrap_or(usize::MAX),
-        reduce_reduce: usize::try_from(counts.reduce_reduce).unwrap_or(usize::MAX),
-    };
+    let found = Counts::of(&counted.opened.tables);
     expected
         .is_met(errors, counted.source(asked.grammar), found)
         .map(Some)

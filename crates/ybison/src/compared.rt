@@ -5,16 +5,27 @@ use std::alloc::Global;
 use yexplain::reads::{Made, action_of, conflict_of, conflicts_of, goto_of, ready_of, set};
 use ylalr::token_count;
 use ysymbols::Sym;
-use ytables::Action;
+use ytables::{Action, Tables};
 
-/// The conflicts of an automaton as bison counts them. Where a shift meets two reductions, there
-/// is one of each kind.
-#[derive(Clone, Copy, Default, Drop)]
+/// Numbers of conflicts. As bison counts them, a shift that meets two reductions makes one of each
+/// kind.
+#[derive(Clone, Copy, Default, Drop, PartialEq, Eq)]
 pub struct Counts {
     /// Shift/reduce conflicts.
     pub shift_reduce: usize,
     /// Reduce/reduce conflicts.
     pub reduce_reduce: usize,
+}
+
+impl Counts {
+    /// Those that tables have.
+    pub fn of(tables: &Tables) -> Counts {
+        let counts = tables.conflicts();
+        Counts {
+            shift_reduce: usize::try_from(counts.shift_reduce).unwrap_or(usize::MAX),
+            reduce_reduce: usize::try_from(counts.reduce_reduce).unwrap_or(usize::MAX),
+        }
+    }
 }
 
 /// A cell that isn't bison's.

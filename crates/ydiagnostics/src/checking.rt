@@ -1,7 +1,7 @@
 //! `ydebug check` for programs.
 
 use crate::diagnostic::{Diagnostic, Severity};
-use crate::document::Said;
+use crate::document::{Said, VERSION};
 use crate::format::Format;
 use crate::inputs::{InputSheet, Judged, answer_of, refused};
 use crate::messaged::Messaged;
@@ -161,6 +161,7 @@ fn put_said<'a, W: Write>(
     out: &mut W,
 ) -> io::Result<u8> {
     let said = Said {
+        version: VERSION,
         form: "check",
         grammar: asked.files.grammar.path,
         status,

@@ -1,7 +1,7 @@
 //! `ydebug conflicts` for programs.
 
 use crate::diagnostic::{Diagnostic, Severity};
-use crate::document::{ConflictSheet, Said};
+use crate::document::{ConflictSheet, Said, VERSION};
 use crate::format::Format;
 use crate::kinds::Shown;
 use crate::told::{About, add_all, checked};
@@ -9,6 +9,7 @@ use std::alloc::Global;
 use std::io::{self, Write};
 use std::rt::Files;
 use yaccepted::conflict::Conflict;
+use yaccepted::expected::Counts;
 use yaccepted::judged::{self, Judged, Listed, judge};
 use yaccepted::opening::{Counted, File, open_counted};
 use ycounterexample::groups::Conflicts;
@@ -66,6 +67,7 @@ impl<'a> Asked<'a> {
 /// What is said, with this exit status and without conflicts.
 fn said<'a>(asked: Asked<'a>, status: u8, diagnostics: &'a [Diagnostic]) -> Said<'a> {
     Said {
+        version: VERSION,
         form: "conflicts",
         grammar: asked.file.path,
         status,
@@ -152,10 +154,10 @@ fn sheet_of(
     found: &Conflicts,
     accepted: Option<bool>,
 ) -> io::Result<ConflictSheet> {
-    let counts = session.tables().conflicts();
+    let counts = Counts::of(session.tables());
     Ok(ConflictSheet {
-        shift_reduce: usize::try_from(counts.shift_reduce).unwrap_or(usize::MAX),
-        reduce_reduce: usize::try_from(counts.reduce_reduce).unwrap_or(usize::MAX),
+        shift_reduce: counts.shift_reduce,
+        reduce_reduce: counts.reduce_reduce,
         cells: found.cells,
         accepted,
         kinds: shown.kind_sheets(alloc, session, found)?,
