@@ -1,7 +1,9 @@
 //! A conflict as a list has it: texts, in which no number of a state or a rule stands.
 
-use std::alloc::{AllocError, Global};
+use std::alloc::Global;
 use yexplain::lines::Spot;
+use yexplain::reads::Made;
+use ysymbols::let_go;
 use ysymbols::names::{SymbolTable, intern, is_among, number_in};
 
 /// A conflict between two items on a token.
@@ -19,18 +21,13 @@ pub struct Conflict {
 impl Drop for Conflict {
     // A call in each owner, which keeps their proofs short.
     fn drop(self) {
-        let Conflict {
-            spot: _,
-            token: _,
-            taken: _,
-            other: _,
-        } = self;
+        let_go!(self: Conflict { spot, token, taken, other });
     }
 }
 
 impl Conflict {
     /// The same again.
-    pub fn copy(&self, alloc: Global) -> Result<Conflict, AllocError> {
+    pub fn copy(&self, alloc: Global) -> Made<Conflict> {
         Ok(Conflict {
             spot: self.spot,
             token: Vec::from_slice(alloc, &self.token)?,
@@ -40,7 +37,7 @@ impl Conflict {
     }
 
     /// What a conflict is compared by with others of its token that are settled by the same item.
-    pub fn front(&self, alloc: Global) -> Result<Vec<u8>, AllocError> {
+    pub fn front(&self, alloc: Global) -> Made<Vec<u8>> {
         let mut key = Vec::from_slice(alloc, &self.token)?;
         key.push(b'\n')?;
         key.extend_from_slice(&self.taken)?;
@@ -48,7 +45,7 @@ impl Conflict {
     }
 
     /// What a conflict is compared by.
-    pub fn key(&self, alloc: Global) -> Result<Vec<u8>, AllocError> {
+    pub fn key(&self, alloc: Global) -> Made<Vec<u8>> {
         let mut key = self.front(alloc)?;
         key.push(b'\n')?;
         key.extend_from_slice(&self.other)?;
@@ -67,9 +64,7 @@ pub struct Conflicts {
 impl Drop for Conflicts {
     // A call in each owner, which keeps their proofs short.
     fn drop(self) {
-        let Conflicts { all, keys } = self;
-        drop(all);
-        drop(keys);
+        let_go!(self: Conflicts { all, keys });
     }
 }
 
@@ -83,20 +78,20 @@ impl Conflicts {
     }
 
     /// Whether a conflict is among them.
-    pub fn has(&self, alloc: Global, conflict: &Conflict) -> Result<bool, AllocError> {
+    pub fn has(&self, alloc: Global, conflict: &Conflict) -> Made<bool> {
         let key = conflict.key(alloc)?;
         Ok(is_among(&self.keys, &key))
     }
 
     /// The line of a conflict, where it is among them.
-    pub fn line_of(&self, alloc: Global, conflict: &Conflict) -> Result<Option<usize>, AllocError> {
+    pub fn line_of(&self, alloc: Global, conflict: &Conflict) -> Made<Option<usize>> {
         let key = conflict.key(alloc)?;
         let before = self.all.get(number_in(&self.keys, &key));
         Ok(before.map(|before| before.spot.line))
     }
 
     /// Adds a conflict, unless it is among them, and says whether it was added.
-    pub fn add(&mut self, alloc: Global, conflict: Conflict) -> Result<bool, AllocError> {
+    pub fn add(&mut self, alloc: Global, conflict: Conflict) -> Made<bool> {
         let key = conflict.key(alloc)?;
         if is_among(&self.keys, &key) {
             return Ok(false);

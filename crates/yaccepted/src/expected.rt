@@ -2,17 +2,9 @@
 
 use crate::comments::Numbers;
 use std::io::{self, Write};
+pub use ybison::compared::Counts;
 use ybison::notes::Source;
 use yimport::symbols::Expected;
-
-/// Numbers of conflicts: shift/reduce, and reduce/reduce.
-#[derive(Clone, Copy, Default, Drop, PartialEq, Eq)]
-pub struct Counts {
-    /// Shift/reduce conflicts.
-    pub shift_reduce: usize,
-    /// Reduce/reduce conflicts.
-    pub reduce_reduce: usize,
-}
 
 /// The numbers of conflicts that are expected, and who expects them.
 #[derive(Clone, Copy, Drop)]

@@ -3,11 +3,11 @@
 use crate::conflict::{Conflict, Conflicts};
 use crate::items::{Dotted, Hosts};
 use indexmap::IndexMap;
-use std::alloc::{AllocError, Global};
+use std::alloc::Global;
 use std::io;
 use yexplain::lines::{Lines, Spot};
 use yexplain::reads::{
-    body_of, candidates_of, conflicts_of, grammar_of, items_of, name_of, next_of, shift_of,
+    Made, body_of, candidates_of, conflicts_of, grammar_of, items_of, name_of, next_of, shift_of,
 };
 use ysymbols::Sym;
 use ytables::{Class, Tables};
@@ -32,7 +32,7 @@ struct Pairs {
 
 /// The rules of a cell that don't lose to its shift, by their order, and nothing where there is
 /// none of this place.
-fn rules_of(alloc: Global, tables: &Tables, cell: (usize, Sym)) -> Result<Vec<usize>, AllocError> {
+fn rules_of(alloc: Global, tables: &Tables, cell: (usize, Sym)) -> Made<Vec<usize>> {
     let shifts = shift_of(tables, cell.0, cell.1).is_some();
     let mut rules = Vec::new(alloc);
     for candidate in candidates_of(tables, cell.0, cell.1) {
@@ -50,12 +50,7 @@ impl Pairs {
     }
 
     /// Adds what an item of a cell is taken before.
-    fn add(
-        &mut self,
-        cell: (usize, Sym),
-        taken: Dotted,
-        others: &[usize],
-    ) -> Result<(), AllocError> {
+    fn add(&mut self, cell: (usize, Sym), taken: Dotted, others: &[usize]) -> Made<()> {
         for other in others {
             let pair = Pair {
                 token: cell.1,
@@ -70,12 +65,7 @@ impl Pairs {
     }
 
     /// Adds the rules that each shift of a cell is taken before.
-    fn add_shifts(
-        &mut self,
-        tables: &Tables,
-        cell: (usize, Sym),
-        rules: &[usize],
-    ) -> Result<(), AllocError> {
+    fn add_shifts(&mut self, tables: &Tables, cell: (usize, Sym), rules: &[usize]) -> Made<()> {
         let grammar = grammar_of(tables);
         for item in items_of(tables.automaton(), cell.0) {
             if next_of(grammar, *item) == Some(cell.1) {
@@ -86,12 +76,7 @@ impl Pairs {
     }
 
     /// Adds the conflicts of a state.
-    fn add_state(
-        &mut self,
-        alloc: Global,
-        tables: &Tables,
-        state: usize,
-    ) -> Result<(), AllocError> {
+    fn add_state(&mut self, alloc: Global, tables: &Tables, state: usize) -> Made<()> {
         for conflict in conflicts_of(tables, state) {
             let cell = (state, conflict.token);
             let rules = rules_of(alloc, tables, cell)?;
@@ -106,7 +91,7 @@ impl Pairs {
     }
 
     /// Those of tables; once there are too many, no more are sought.
-    fn new(alloc: Global, tables: &Tables) -> Result<Pairs, AllocError> {
+    fn new(alloc: Global, tables: &Tables) -> Made<Pairs> {
         let mut pairs = Pairs {
             all: IndexMap::new(alloc),
         };

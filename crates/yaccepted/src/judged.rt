@@ -14,7 +14,7 @@ use std::rt::Files;
 use yexplain::text::Bytes;
 use yfaults::opening::Opened;
 use yfiles::reading::{LONGEST_INPUT, Limited};
-use yfiles::writing::put_output;
+use yfiles::writing::put_file;
 
 /// The most conflicts that are told of those that are new, and of those that are gone.
 const MOST_TOLD: usize = 1_000;
@@ -91,43 +91,20 @@ fn compared(alloc: Global, list: &List, found: &Conflicts) -> io::Result<Listed>
     })
 }
 
-/// The bytes of a list, which may be absent where it is to be written; where it can't be read, that
-/// is written, and the exit status is the answer.
-fn bytes_of<F: Files + AllocGlobal, E: Write>(
-    rt: &F,
-    path: &str,
-    may_lack: bool,
-    errors: &mut E,
-) -> io::Result<Result<Option<Vec<u8>>, u8>> {
-    if may_lack && fs::metadata(rt, path).is_err() {
-        return Ok(Ok(None));
-    }
-    let most = LONGEST_INPUT;
-    let file = Limited { path, most };
-    match file.bytes(rt) {
-        Ok(Some(bytes)) => Ok(Ok(Some(bytes))),
-        Ok(None) => {
-            file.put_long(rt, errors)?;
-            Ok(Err(1))
-        }
-        Err(error) if error.kind() == ErrorKind::OutOfMemory => Err(error),
-        Err(_) => {
-            writeln!(errors, "ydebug: cannot read {path}")?;
-            Ok(Err(3))
-        }
-    }
-}
-
-/// The list of a path; where it is refused, that is written, and the exit status is the answer.
+/// The list of a path, which may be absent where it is to be written; where it can't be read or is
+/// refused, that is written, and the exit status is the answer.
 fn read_list<F: Files + AllocGlobal, E: Write>(
     rt: &F,
     path: &str,
     may_lack: bool,
     errors: &mut E,
 ) -> io::Result<Result<List, u8>> {
-    let bytes = match bytes_of(rt, path, may_lack, errors)? {
-        Ok(Some(bytes)) => bytes,
-        Ok(None) => return Ok(Ok(List::new(rt.alloc()))),
+    if may_lack && fs::metadata(rt, path).is_err() {
+        return Ok(Ok(List::new(rt.alloc())));
+    }
+    let most = LONGEST_INPUT;
+    let bytes = match (Limited { path, most }).bytes_or_status(rt, false, errors)? {
+        Ok(bytes) => bytes,
         Err(status) => return Ok(Err(status)),
     };
     match list_of(rt.alloc(), &bytes) {
@@ -170,8 +147,7 @@ fn update<F: Files + AllocGlobal, E: Write>(
 ) -> io::Result<u8> {
     let mut text = Vec::new(rt.alloc());
     put_list(rt.alloc(), &mut text, grammar, list, found)?;
-    let mut nowhere = Vec::new(rt.alloc());
-    put_output(rt, Some(path), &text, &mut nowhere, errors)
+    put_file(rt, path, &text, errors)
 }
 
 /// Compares a list with the conflicts that were found, and writes it anew, where that is asked for.
@@ -238,11 +214,7 @@ fn is_expected<E: Write>(
     if !expected.any() {
         return Ok(None);
     }
-    let counts = counted.opened.tables.conflicts();
-    let found = Counts {
-        shift_reduce: usize::try_from(counts.shift_reduce).unwrap_or(usize::MAX),
-        reduce_reduce: usize::try_from(counts.reduce_reduce).unwrap_or(usize::MAX),
-    };
+    let found = Counts::of(&counted.opened.tables);
     expected
         .is_met(errors, counted.source(asked.grammar), found)
         .map(Some)

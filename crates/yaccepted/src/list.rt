@@ -4,6 +4,8 @@ use crate::conflict::{Conflict, Conflicts};
 use std::alloc::{AllocError, Global};
 use std::mem;
 use yexplain::lines::Spot;
+use yexplain::reads::Made;
+use ysymbols::let_go;
 use ysymbols::names::{SymbolTable, intern, number_in};
 
 /// The line with which a list begins.
@@ -75,16 +77,7 @@ pub struct List {
 impl Drop for List {
     // A call in each owner, which keeps their proofs short.
     fn drop(self) {
-        let List {
-            accepted,
-            head: _,
-            tail: _,
-            fronts,
-            comments,
-        } = self;
-        drop(accepted);
-        drop(fronts);
-        drop(comments);
+        let_go!(self: List { accepted, head, tail, fronts, comments });
     }
 }
 
@@ -107,7 +100,7 @@ impl List {
     }
 
     /// Adds a comment before the conflicts that begin so.
-    fn keep(&mut self, alloc: Global, front: &[u8], comment: &[u8]) -> Result<(), AllocError> {
+    fn keep(&mut self, alloc: Global, front: &[u8], comment: &[u8]) -> Made<()> {
         let number = number_in(&self.fronts, front);
         if let Some(comments) = self.comments.get_mut(number) {
             comments.extend_from_slice(comment)?;
@@ -216,7 +209,7 @@ impl Reader {
     }
 
     /// The line of a conflict that was read, where it was.
-    fn line_of(&self, conflict: &Conflict) -> Result<Option<usize>, AllocError> {
+    fn line_of(&self, conflict: &Conflict) -> Made<Option<usize>> {
         self.list.accepted.line_of(self.alloc, conflict)
     }
 

@@ -1,7 +1,7 @@
 //! A grammar file that is open, with the numbers of conflicts that it expects.
 
 use crate::comments::Numbers;
-use crate::expected::{Counts, Expectation};
+use crate::expected::Expectation;
 use crate::refusal::put_wrong_comment;
 use std::io::{self, Write};
 use std::rt::Files;
@@ -76,11 +76,7 @@ fn directives_of(foreign: &Foreign) -> Expectation {
         shift_reduce: foreign.imported.shift_reduce,
         reduce_reduce: foreign.imported.reduce_reduce,
     };
-    let counts = Counts {
-        shift_reduce: foreign.counts.shift_reduce,
-        reduce_reduce: foreign.counts.reduce_reduce,
-    };
-    Expectation::Directives(numbers, counts)
+    Expectation::Directives(numbers, foreign.counts)
 }
 
 /// What the comments of a file expect; where one is refused, that is written, and the exit status

@@ -2,8 +2,9 @@
 
 use crate::conflict::{Conflict, Conflicts};
 use crate::list::{FIRST, FRONT, List};
-use std::alloc::{AllocError, Global};
+use std::alloc::Global;
 use std::io::{self, Write};
+use yexplain::reads::Made;
 use ysymbols::names::{SymbolTable, intern, number_in};
 
 /// A conflict, and the number of its block: those of a token that are settled by one item.
@@ -23,7 +24,7 @@ struct Sheet<'a> {
 
 impl<'a> Sheet<'a> {
     /// Adds a conflict to its block, the last one where it has none.
-    fn place(&mut self, conflict: &'a Conflict) -> Result<(), AllocError> {
+    fn place(&mut self, conflict: &'a Conflict) -> Made<()> {
         let front = conflict.front(self.alloc)?;
         let block = number_in(&self.fronts, &front);
         intern(self.alloc, &mut self.fronts, &front)?;
@@ -37,7 +38,7 @@ impl<'a> Sheet<'a> {
         conflicts: &'a Conflicts,
         others: &Conflicts,
         are_among: bool,
-    ) -> Result<(), AllocError> {
+    ) -> Made<()> {
         for conflict in &conflicts.all {
             if others.has(self.alloc, conflict)? == are_among {
                 self.place(conflict)?;

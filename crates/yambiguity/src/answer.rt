@@ -167,38 +167,44 @@ impl Ambiguities {
         }
     }
 
-    /// What can be found for two rivals that one way allows both.
-    pub fn seek_both(
+    /// What can be found for two rivals: where one way allows both, a sentence with two trees, or
+    /// else one for each on that way; where none does, a sentence for each.
+    pub fn seek(
         &mut self,
         tables: &Tables,
         finder: &mut Finder,
-        rivals: Rivals,
+        (rivals, are_both): (Rivals, bool),
     ) -> Made<Answer> {
         let mut answer = Answer::new(self.alloc);
-        let target = rivals.target(rivals.first.rule(), Some(rivals.second));
-        if let Found::Way(way) = finder.shortest(tables.automaton(), target)? {
-            self.seek_twins(tables, finder, rivals, &way, &mut answer)?;
-            if answer.twins.is_none() {
-                for choice in rivals.choices() {
-                    self.add(tables, finder, (rivals, choice), &way, &mut answer)?;
-                }
+        if are_both {
+            self.add_both(tables, finder, rivals, &mut answer)?;
+        } else {
+            for choice in rivals.choices() {
+                self.add_alone(tables, finder, (rivals, choice), &mut answer)?;
             }
         }
         Ok(answer)
     }
 
-    /// What can be found for two rivals that no way allows both: a sentence for each.
-    pub fn seek_each(
+    /// Adds what is found on the shortest way that allows both rivals.
+    fn add_both(
         &mut self,
         tables: &Tables,
         finder: &mut Finder,
         rivals: Rivals,
-    ) -> Made<Answer> {
-        let mut answer = Answer::new(self.alloc);
-        for choice in rivals.choices() {
-            self.add_alone(tables, finder, (rivals, choice), &mut answer)?;
+        answer: &mut Answer,
+    ) -> Made<()> {
+        let target = rivals.target(rivals.first.rule(), Some(rivals.second));
+        let Found::Way(way) = finder.shortest(tables.automaton(), target)? else {
+            return Ok(());
+        };
+        self.seek_twins(tables, finder, rivals, &way, answer)?;
+        if answer.twins.is_none() {
+            for choice in rivals.choices() {
+                self.add(tables, finder, (rivals, choice), &way, answer)?;
+            }
         }
-        Ok(answer)
+        Ok(())
     }
 
     /// Seeks one sentence with two trees.

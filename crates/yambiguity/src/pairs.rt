@@ -82,6 +82,30 @@ impl Pair {
     fn is_joined(self) -> bool {
         self.first == self.second && self.stage != Stage::Before
     }
+
+    /// The stack of one of the parses.
+    fn stack(self, side: Side) -> usize {
+        match side {
+            Side::First => self.first,
+            Side::Second | Side::Both => self.second,
+        }
+    }
+
+    /// The pair once one of the parses has come to a stack by a reduction: after the second one
+    /// has, the first one reduces no more before a symbol is shifted.
+    fn reduced(self, side: Side, stack: usize) -> Pair {
+        match side {
+            Side::First => Pair {
+                first: stack,
+                ..self
+            },
+            Side::Second | Side::Both => Pair {
+                second: stack,
+                may_reduce: false,
+                ..self
+            },
+        }
+    }
 }
 
 impl Search {
@@ -159,8 +183,10 @@ impl Search {
             if pair.is_joined() {
                 return Ok(Some(self.joined(number, pair.first)?));
             }
-            self.reduce_first(tables, stacks, (number, pair, cost))?;
-            self.reduce_second(tables, stacks, (number, pair, cost))?;
+            if pair.may_reduce {
+                self.reduce(tables, stacks, (number, pair, cost), Side::First)?;
+            }
+            self.reduce(tables, stacks, (number, pair, cost), Side::Second)?;
             self.shift_all(tables, stacks, finder, (number, pair, cost))?;
         }
         Ok(None)
@@ -183,50 +209,24 @@ impl Search {
         }
     }
 
-    /// The first parse reduces.
-    fn reduce_first(
+    /// One of the parses reduces.
+    fn reduce(
         &mut self,
         tables: &Tables,
         stacks: &mut Stacks,
         (number, pair, cost): (usize, Pair, u64),
+        side: Side,
     ) -> Made<()> {
-        if !pair.may_reduce {
-            return Ok(());
-        }
-        let rules = self.rules(tables, stacks, pair, pair.first)?;
+        let stack = pair.stack(side);
+        let rules = self.rules(tables, stacks, pair, stack)?;
         for rule in &rules {
-            if let Some(first) = stacks.reduced(tables.automaton(), pair.first, *rule)? {
+            if let Some(reduced) = stacks.reduced(tables.automaton(), stack, *rule)? {
                 let link = Link {
                     from: number,
-                    side: Side::First,
+                    side,
                     deed: Deed::Reduce(*rule),
                 };
-                self.put(Pair { first, ..pair }, cost.saturating_add(REDUCTION), link)?;
-            }
-        }
-        Ok(())
-    }
-
-    /// The second parse reduces, and the first one no more before a symbol is shifted.
-    fn reduce_second(
-        &mut self,
-        tables: &Tables,
-        stacks: &mut Stacks,
-        (number, pair, cost): (usize, Pair, u64),
-    ) -> Made<()> {
-        let rules = self.rules(tables, stacks, pair, pair.second)?;
-        for rule in &rules {
-            if let Some(second) = stacks.reduced(tables.automaton(), pair.second, *rule)? {
-                let link = Link {
-                    from: number,
-                    side: Side::Second,
-                    deed: Deed::Reduce(*rule),
-                };
-                let pair = Pair {
-                    second,
-                    may_reduce: false,
-                    ..pair
-                };
+                let pair = pair.reduced(side, reduced);
                 self.put(pair, cost.saturating_add(REDUCTION), link)?;
             }
         }

@@ -1,20 +1,31 @@
 //! The cells of tables beside bison's.
 
 use crate::peer::{Left, Peer};
-use std::alloc::{AllocError, Global};
-use yexplain::reads::{action_of, conflict_of, conflicts_of, goto_of, ready_of, set};
+use std::alloc::Global;
+use yexplain::reads::{Made, action_of, conflict_of, conflicts_of, goto_of, ready_of, set};
 use ylalr::token_count;
 use ysymbols::Sym;
-use ytables::Action;
+use ytables::{Action, Tables};
 
-/// The conflicts of an automaton as bison counts them. Where a shift meets two reductions, there
-/// is one of each kind.
-#[derive(Clone, Copy, Default, Drop)]
+/// Numbers of conflicts. As bison counts them, a shift that meets two reductions makes one of each
+/// kind.
+#[derive(Clone, Copy, Default, Drop, PartialEq, Eq)]
 pub struct Counts {
     /// Shift/reduce conflicts.
     pub shift_reduce: usize,
     /// Reduce/reduce conflicts.
     pub reduce_reduce: usize,
+}
+
+impl Counts {
+    /// Those that tables have.
+    pub fn of(tables: &Tables) -> Counts {
+        let counts = tables.conflicts();
+        Counts {
+            shift_reduce: usize::try_from(counts.shift_reduce).unwrap_or(usize::MAX),
+            reduce_reduce: usize::try_from(counts.reduce_reduce).unwrap_or(usize::MAX),
+        }
+    }
 }
 
 /// A cell that isn't bison's.
@@ -67,7 +78,7 @@ fn does(left: &Left, action: Action) -> bool {
 
 impl Walk<'_> {
     /// Reaches a state.
-    fn reach(&mut self, state: usize) -> Result<(), AllocError> {
+    fn reach(&mut self, state: usize) -> Made<()> {
         if self.is_reached.get(state) == Some(&false) {
             set(&mut self.is_reached, state, true);
             self.reached.push(state)?;
@@ -76,7 +87,7 @@ impl Walk<'_> {
     }
 
     /// Reaches the state to which a symbol leads.
-    fn reach_by(&mut self, state: usize, symbol: Sym) -> Result<(), AllocError> {
+    fn reach_by(&mut self, state: usize, symbol: Sym) -> Made<()> {
         match goto_of(self.peer.tables.automaton(), state, symbol) {
             Some(next) => self.reach(next),
             None => Ok(()),
@@ -110,7 +121,7 @@ impl Walk<'_> {
     }
 
     /// Looks at the cells of a state.
-    fn look_at(&mut self, alloc: Global, state: usize) -> Result<(), AllocError> {
+    fn look_at(&mut self, alloc: Global, state: usize) -> Made<()> {
         let ready = ready_of(alloc, self.peer.tables.automaton(), state)?;
         for token in 0..token_count(self.peer.grammar()) {
             let left = self.peer.left_in(state, token, &ready);
@@ -126,7 +137,7 @@ impl Walk<'_> {
     }
 
     /// Reaches the states to which nonterminals lead.
-    fn pass(&mut self, state: usize) -> Result<(), AllocError> {
+    fn pass(&mut self, state: usize) -> Made<()> {
         let grammar = self.peer.grammar();
         for symbol in token_count(grammar)..grammar.symbols() {
             self.reach_by(state, symbol)?;
@@ -145,7 +156,7 @@ impl Walk<'_> {
     }
 
     /// Looks at all states that can be reached.
-    fn run(&mut self, alloc: Global) -> Result<(), AllocError> {
+    fn run(&mut self, alloc: Global) -> Made<()> {
         self.reach(0)?;
         for at in 0..self.peer.tables.automaton().states() {
             let Some(state) = self.reached.get(at).copied() else {
@@ -162,7 +173,7 @@ impl Walk<'_> {
 impl Compared {
     /// Compares the cells of tables with bison's, in the states that bison keeps: those that can
     /// be reached by what it leaves in the cells.
-    pub fn new(alloc: Global, peer: Peer<'_>) -> Result<Compared, AllocError> {
+    pub fn new(alloc: Global, peer: Peer<'_>) -> Made<Compared> {
         let mut walk = Walk {
             peer,
             found: Compared::default(),

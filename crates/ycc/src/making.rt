@@ -5,9 +5,10 @@ use crate::messages::speech_of;
 use crate::names::{Names, names_of};
 use crate::reading::Reading;
 use crate::words::Given;
-use std::alloc::{AllocError, Global};
+use std::alloc::Global;
 use std::io::Write;
 use ycode::code_of;
+use yexplain::reads::Made;
 use yfiles::writing::write_over;
 use yparts::options::{Header, Options};
 use yskeleton::{Mode, Skeleton, Text, Trouble, Wishes, default_rules, style_of};
@@ -25,19 +26,15 @@ fn made<T>(rt: &HostRuntime, file: &File, text: Result<T, Trouble>) -> Result<T,
     }
 }
 
-/// The report on states.
-fn report_of(alloc: Global, tables: &Tables) -> Result<Vec<u8>, Ending> {
+/// The report on states, or else the table that `yacc` writes.
+fn text_of(alloc: Global, tables: &Tables, is_report: bool) -> Result<Vec<u8>, Ending> {
     let mut link = Link::new(Vec::new(alloc));
-    match tables.write_report(&mut link) {
-        Ok(()) => Ok(link.into_inner()),
-        Err(_) => Err(Ending::Memory),
-    }
-}
-
-/// The table that `yacc` writes.
-fn table_of(alloc: Global, tables: &Tables) -> Result<Vec<u8>, Ending> {
-    let mut link = Link::new(Vec::new(alloc));
-    match tables.write_table(&mut link) {
+    let written = if is_report {
+        tables.write_report(&mut link)
+    } else {
+        tables.write_table(&mut link)
+    };
+    match written {
         Ok(()) => Ok(link.into_inner()),
         Err(_) => Err(Ending::Memory),
     }
@@ -152,7 +149,7 @@ fn make(
 }
 
 /// The rules by which bison's lists go, where these are wanted.
-fn defaults_of(alloc: Global, tables: &Tables, is_wanted: bool) -> Result<Vec<usize>, AllocError> {
+fn defaults_of(alloc: Global, tables: &Tables, is_wanted: bool) -> Made<Vec<usize>> {
     if is_wanted {
         default_rules(alloc, tables)
     } else {
@@ -178,12 +175,12 @@ fn texts_of<'a>(
         None
     };
     let report = if given.verbose || options.verbose {
-        Some(report_of(alloc, tables)?)
+        Some(text_of(alloc, tables, true)?)
     } else {
         None
     };
     let table = match given.table {
-        Some(_) => Some(table_of(alloc, tables)?),
+        Some(_) => Some(text_of(alloc, tables, false)?),
         None => None,
     };
     Ok(Texts {

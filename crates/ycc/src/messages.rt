@@ -6,7 +6,7 @@ use std::io::{self, Write};
 use yfiles::reading::{LONGEST_INPUT, Limited};
 use ymessages::inputs::Inputs;
 use ymessages::messages::Messages;
-use ymessages::slots::{Slot, slots_of};
+use ymessages::slots::Slot;
 use yskeleton::{Speech, Style};
 use ytables::Tables;
 
@@ -26,11 +26,11 @@ fn add_state(
     messages: &Messages,
     state: usize,
 ) -> io::Result<()> {
-    let Some(message) = messages.of(state) else {
+    let Some(slots) = messages.slots(alloc, state)? else {
         return Ok(());
     };
     speech.begin(state);
-    for slot in &slots_of(alloc, message)? {
+    for slot in &slots {
         add_slot(speech, *slot)?;
     }
     speech.end()

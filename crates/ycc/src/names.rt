@@ -1,8 +1,9 @@
 //! The names of the files that are written.
 
 use crate::words::Given;
-use std::alloc::{AllocError, Global};
+use std::alloc::Global;
 use std::str;
+use yexplain::reads::Made;
 use yparts::options::{Header, Options};
 
 /// The paths of the parser, its header, the report and the tables.
@@ -55,7 +56,7 @@ fn cut(path: &str) -> (&str, &'static str) {
 const TAB: &str = ".tab";
 
 /// The names where the file of the parser is named.
-fn names_by_parser(alloc: Global, path: &str) -> Result<Names, AllocError> {
+fn names_by_parser(alloc: Global, path: &str) -> Made<Names> {
     let (stem, header) = cut(path);
     let report = stem.strip_suffix(TAB).unwrap_or(stem);
     Ok(Names {
@@ -67,11 +68,7 @@ fn names_by_parser(alloc: Global, path: &str) -> Result<Names, AllocError> {
 }
 
 /// The names that begin with a prefix, with the endings of the parser and of its header.
-fn names_by_prefix(
-    alloc: Global,
-    prefix: &str,
-    (parser, header): (&str, &str),
-) -> Result<Names, AllocError> {
+fn names_by_prefix(alloc: Global, prefix: &str, (parser, header): (&str, &str)) -> Made<Names> {
     Ok(Names {
         parser: format!(in alloc; "{prefix}.tab{parser}")?,
         header: format!(in alloc; "{prefix}.tab{header}")?,
@@ -108,7 +105,7 @@ fn names_for(
     given: Given<'_>,
     options: &Options<'_>,
     is_bison: bool,
-) -> Result<Names, AllocError> {
+) -> Made<Names> {
     if let Some(path) = given.parser.or(word(options.output)) {
         return names_by_parser(alloc, path);
     }
@@ -129,7 +126,7 @@ pub fn names_of(
     given: Given<'_>,
     options: &Options<'_>,
     is_bison: bool,
-) -> Result<Names, AllocError> {
+) -> Made<Names> {
     let mut names = names_for(alloc, given, options, is_bison)?;
     let header = match options.header {
         Header::At(path) => word(Some(path)),

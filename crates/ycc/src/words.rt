@@ -2,6 +2,7 @@
 
 use clap::{Arg, ArgAction, ArgMatches, Command};
 use std::alloc::{AllocError, Global};
+use yexplain::reads::Made;
 
 /// What is written to standard error where the words are refused.
 pub const USAGE: &[u8] =
@@ -83,7 +84,7 @@ fn short<'a>(alloc: Global, (name, letter): (&'a str, char), help: &'a str) -> A
 }
 
 /// The flags that say what is written.
-fn with_flags<'a>(alloc: Global, command: Command<'a>) -> Result<Command<'a>, AllocError> {
+fn with_flags<'a>(alloc: Global, command: Command<'a>) -> Made<Command<'a>> {
     let yacc = "The files have the names that yacc gives them";
     command
         .arg(short(alloc, ("d", 'd'), "Writes a header too"))?
@@ -94,7 +95,7 @@ fn with_flags<'a>(alloc: Global, command: Command<'a>) -> Result<Command<'a>, Al
 }
 
 /// The flags that say what the parser is.
-fn with_kinds<'a>(alloc: Global, command: Command<'a>) -> Result<Command<'a>, AllocError> {
+fn with_kinds<'a>(alloc: Global, command: Command<'a>) -> Made<Command<'a>> {
     let pure = "The parser has no variables that its calls share";
     let bison = "Order and names of bison, also where no directive asks for them";
     let lists = "Errors list the tokens that bison would list";
@@ -106,7 +107,7 @@ fn with_kinds<'a>(alloc: Global, command: Command<'a>) -> Result<Command<'a>, Al
 }
 
 /// The options with values.
-fn with_options<'a>(alloc: Global, command: Command<'a>) -> Result<Command<'a>, AllocError> {
+fn with_options<'a>(alloc: Global, command: Command<'a>) -> Made<Command<'a>> {
     let prefix = "What the names of the files begin with";
     let names = "What names in C begin with, yy unless given";
     let messages = Arg::new(alloc, "messages")
@@ -134,7 +135,7 @@ fn with_options<'a>(alloc: Global, command: Command<'a>) -> Result<Command<'a>, 
 }
 
 /// The options whose values may be left out.
-fn with_optional<'a>(alloc: Global, command: Command<'a>) -> Result<Command<'a>, AllocError> {
+fn with_optional<'a>(alloc: Global, command: Command<'a>) -> Made<Command<'a>> {
     command
         .arg(may_have(
             alloc,
@@ -161,7 +162,7 @@ fn with_optional<'a>(alloc: Global, command: Command<'a>) -> Result<Command<'a>,
 }
 
 /// The command line.
-pub fn command<'a>(alloc: Global) -> Result<Command<'a>, AllocError> {
+pub fn command<'a>(alloc: Global) -> Made<Command<'a>> {
     let grammar = Arg::new(alloc, "grammar")
         .required(true)
         .action(ArgAction::Set)
@@ -207,7 +208,7 @@ pub fn given_in<'a>(matches: &ArgMatches<'a>) -> Option<Given<'a>> {
 }
 
 /// The variables that words set, with a zero after each.
-pub fn variables_in(alloc: Global, matches: &ArgMatches<'_>) -> Result<Vec<u8>, AllocError> {
+pub fn variables_in(alloc: Global, matches: &ArgMatches<'_>) -> Made<Vec<u8>> {
     let mut variables = Vec::new(alloc);
     for variable in matches.get_strs("define").unwrap_or(&[]) {
         variables.extend_from_slice(variable.as_bytes())?;

@@ -9,12 +9,13 @@ use crate::text::Changed;
 use std::alloc::{AllocError, Global};
 use std::io;
 use yexplain::lines::Lines;
+use yexplain::reads::Made;
 use ygrammar::{Grammar, GrammarFault, read_grammar};
 use ylalr::{BuildFault, build};
 use ytables::{Tables, resolve};
 
 /// The grammar of a text, where it isn't refused.
-fn grammar_in(alloc: Global, text: &[u8]) -> Result<Option<Grammar>, AllocError> {
+fn grammar_in(alloc: Global, text: &[u8]) -> Made<Option<Grammar>> {
     match read_grammar(alloc, text) {
         Ok(grammar) => Ok(Some(grammar)),
         Err(GrammarFault::Memory) => Err(AllocError),
@@ -23,7 +24,7 @@ fn grammar_in(alloc: Global, text: &[u8]) -> Result<Option<Grammar>, AllocError>
 }
 
 /// The tables of a grammar, where it hasn't too many states.
-fn tables_of(alloc: Global, grammar: Grammar) -> Result<Option<Tables>, AllocError> {
+fn tables_of(alloc: Global, grammar: Grammar) -> Made<Option<Tables>> {
     match build(alloc, grammar) {
         Ok(automaton) => match resolve(alloc, automaton) {
             Ok(tables) => Ok(Some(tables)),
@@ -48,7 +49,7 @@ pub fn conflicts_after(
     grammar: &Grammar,
     lines: &Lines,
     change: Change,
-) -> Result<Option<usize>, AllocError> {
+) -> Made<Option<usize>> {
     let changed = Changed {
         grammar,
         lines,

@@ -9,6 +9,7 @@ use ycli::run::run_session;
 use ygrammar::read_grammar;
 use ylalr::build;
 use yparse::{Session, read_tokens};
+use ysymbols::let_go;
 use ytables::{Link, Tables, resolve};
 
 const REPLY: &[u8] = b"1 shift 'x'\n";
@@ -25,10 +26,7 @@ struct Served {
 impl Drop for Served {
     // A call in each owner, which keeps their proofs short.
     fn drop(self) {
-        let Served {
-            answer: _,
-            writer: _,
-        } = self;
+        let_go!(self: Served { answer, writer });
     }
 }
 

@@ -6,6 +6,7 @@ use testkit::devices::{Refusal, Sink};
 use testkit::worked::ONE;
 use ycli::generator::yacc_in;
 use ycli::programs::ystep_in;
+use ysymbols::let_go;
 use ytables::Link;
 use ytexts::{Text, Texts};
 
@@ -19,11 +20,7 @@ struct Ran {
 impl Drop for Ran {
     // A call in each owner, which keeps their proofs short.
     fn drop(self) {
-        let Ran {
-            status: _,
-            out: _,
-            messages: _,
-        } = self;
+        let_go!(self: Ran { status, out, messages });
     }
 }
 

@@ -10,6 +10,7 @@ use std::alloc::{AllocError, Global};
 use std::collections::HashMap;
 use std::marker::Model;
 use yrows::slots::{Slots, blocked};
+use ysymbols::let_go;
 
 /// Rows in one list of cells. A cell has a number, and as its check the column that it is of; a
 /// free cell has the number of columns as its check. Different rows begin at different places.
@@ -31,15 +32,7 @@ pub struct Packing {
 impl Drop for Packing {
     // A call in each owner, which keeps their proofs short.
     fn drop(self) {
-        let Packing {
-            width: _,
-            checks: _,
-            values: _,
-            begun: _,
-            cells: _,
-            starts: _,
-            known: _,
-        } = self;
+        let_go!(self: Packing { width, checks, values, begun, cells, starts, known });
     }
 }
 

@@ -10,6 +10,7 @@ ghost use Rattle.ycode.specs.Bits.{bit_of, AreBits, HasSet, IsSets, KeepsSets};
 use std::alloc::{AllocError, Global};
 use std::collections::HashMap;
 use std::marker::Model;
+use ysymbols::let_go;
 
 /// Bits in each byte.
 const BITS: usize = 8;
@@ -28,12 +29,7 @@ pub struct Sets {
 impl Drop for Sets {
     // A call in each owner, which keeps their proofs short.
     fn drop(self) {
-        let Sets {
-            span: _,
-            count: _,
-            bytes: _,
-            known: _,
-        } = self;
+        let_go!(self: Sets { span, count, bytes, known });
     }
 }
 

@@ -2,9 +2,9 @@
 
 use crate::refusal::Refusal;
 use crate::words::{Found, find, first_word, near_in, number_of};
-use std::alloc::{AllocError, Global};
+use std::alloc::Global;
 use std::io::Write;
-use yexplain::reads::{grammar_of, left_of};
+use yexplain::reads::{Made, grammar_of, left_of};
 use yfaults::nearest::Search;
 use ylalr::{END, ERROR};
 use yparse::Session;
@@ -127,7 +127,7 @@ pub fn condition_of(session: &Session, tokens: usize, text: &str) -> Result<Cond
 }
 
 /// The condition whose word is near to this one.
-pub fn condition_near<'a>(alloc: Global, word: &'a str) -> Result<Option<&'a str>, AllocError> {
+pub fn condition_near<'a>(alloc: Global, word: &'a str) -> Made<Option<&'a str>> {
     near_in(alloc, &WORDS, word)
 }
 
@@ -147,7 +147,7 @@ pub fn symbol_near<'a>(
     grammar: &'a Grammar,
     name: &'a str,
     refusal: Refusal,
-) -> Result<Option<&'a str>, AllocError> {
+) -> Made<Option<&'a str>> {
     let mut search = Search::new(name.as_bytes());
     for symbol in 0..grammar.symbols() {
         if is_wanted(grammar, symbol, refusal) {

@@ -1,6 +1,7 @@
 //! Words: the first of a line, numbers, a word's place in a table, and the nearest other word.
 
-use std::alloc::{AllocError, Global};
+use std::alloc::Global;
+use yexplain::reads::Made;
 use yfaults::nearest::Search;
 
 /// The first word, and what follows it.
@@ -57,7 +58,7 @@ pub fn near_in<'a, T: Copy>(
     alloc: Global,
     table: &[(&'static str, T)],
     word: &'a str,
-) -> Result<Option<&'a str>, AllocError> {
+) -> Made<Option<&'a str>> {
     let mut search = Search::new(word.as_bytes());
     for (name, _) in table {
         let name: &'static str = *name;

@@ -198,7 +198,7 @@ impl Shortest {
 }
 
 /// Adds symbols, the first of them last.
-fn push_back(open: &mut Vec<Sym>, form: &[Sym]) -> Made<()> {
+pub fn push_back(open: &mut Vec<Sym>, form: &[Sym]) -> Made<()> {
     for symbol in form.iter().rev() {
         open.push(*symbol)?;
     }

@@ -7,9 +7,10 @@ use crate::search::{Finder, Found, Target};
 use crate::trial::{self, Trial, try_list};
 use std::alloc::{AllocError, Global};
 use std::io;
+use yexplain::reads::Made;
 use ylalr::END;
 use yparse::Session;
-use ysymbols::Sym;
+use ysymbols::{Sym, let_go};
 
 /// How many lists are tried, the first one among them, where that one doesn't get there.
 const MOST_LISTS: usize = 100;
@@ -63,15 +64,7 @@ pub struct List {
 impl Drop for List {
     // A call in each owner, which keeps their proofs short.
     fn drop(self) {
-        let List {
-            allows: _,
-            rules: _,
-            tokens: _,
-            trial: _,
-            other: _,
-            tried: _,
-            recovered: _,
-        } = self;
+        let_go!(self: List { allows, rules, tokens, trial, other, tried, recovered });
     }
 }
 
@@ -95,7 +88,7 @@ impl Finding {
     }
 
     /// Adds a rule to the list of these tokens, and says whether there is one.
-    fn share(&mut self, goal: Goal, tokens: &[Sym]) -> Result<bool, AllocError> {
+    fn share(&mut self, goal: Goal, tokens: &[Sym]) -> Made<bool> {
         for list in self.lists.iter_mut() {
             if list.allows == goal.allows && list.tokens.as_slice() == tokens {
                 list.rules.push(goal.rule)?;
@@ -130,7 +123,7 @@ struct Goal {
 
 impl<'a> Seeker<'a> {
     /// What lists for the conflicts of a session without tokens are sought with.
-    pub fn new(alloc: Global, session: &'a mut Session) -> Result<Seeker<'a>, AllocError> {
+    pub fn new(alloc: Global, session: &'a mut Session) -> Made<Seeker<'a>> {
         Ok(Seeker {
             alloc,
             finder: Finder::new(alloc, session.tables().automaton())?,
@@ -213,7 +206,7 @@ impl<'a> Seeker<'a> {
     }
 
     /// The shortest way for a list.
-    fn way(&mut self, goal: Goal) -> Result<Found, AllocError> {
+    fn way(&mut self, goal: Goal) -> Made<Found> {
         let automaton = self.session.tables().automaton();
         self.finder.shortest(automaton, goal.target)
     }

@@ -1,9 +1,9 @@
 //! The cells that count conflicts, those of one kind together.
 
 use indexmap::IndexMap;
-use std::alloc::{AllocError, Global};
+use std::alloc::Global;
 use yexplain::lines::{Lines, Spot};
-use yexplain::reads::{candidates_of, conflicts_of, items_of, next_of, rivals_in, shift_of};
+use yexplain::reads::{Made, candidates_of, conflicts_of, items_of, next_of, rivals_in, shift_of};
 use yexplain::why::Question;
 use ylalr::Automaton;
 use ysymbols::Sym;
@@ -133,7 +133,7 @@ fn kind_of(tables: &Tables, state: usize, conflict: Conflict) -> Kind {
 
 impl Conflicts {
     /// The conflicts of tables.
-    pub fn new(alloc: Global, tables: &Tables) -> Result<Conflicts, AllocError> {
+    pub fn new(alloc: Global, tables: &Tables) -> Made<Conflicts> {
         let mut found = Conflicts {
             groups: IndexMap::new(alloc),
             cells: 0,
@@ -146,7 +146,7 @@ impl Conflicts {
     }
 
     /// Notes the conflicts of a state.
-    fn look_at(&mut self, tables: &Tables, state: usize) -> Result<(), AllocError> {
+    fn look_at(&mut self, tables: &Tables, state: usize) -> Made<()> {
         for conflict in conflicts_of(tables, state) {
             self.cells = self.cells.saturating_add(1);
             if self.groups.len() >= MOST_KINDS {
@@ -159,7 +159,7 @@ impl Conflicts {
     }
 
     /// Notes a conflict of a kind in a state.
-    fn note(&mut self, kind: Kind, state: usize) -> Result<(), AllocError> {
+    fn note(&mut self, kind: Kind, state: usize) -> Made<()> {
         if let Some(group) = self.groups.get_mut(&kind) {
             group.states = group.states.saturating_add(1);
             group.last = state;

@@ -1,6 +1,7 @@
 //! Lists by number.
 
-use std::alloc::{AllocError, Global};
+use std::alloc::Global;
+use yexplain::reads::Made;
 
 /// Lists by number.
 #[derive(Drop)]
@@ -10,7 +11,7 @@ pub struct Lists<T: Copy> {
 
 impl<T: Copy> Lists<T> {
     /// So many lists, all empty.
-    pub fn new(alloc: Global, count: usize) -> Result<Lists<T>, AllocError> {
+    pub fn new(alloc: Global, count: usize) -> Made<Lists<T>> {
         let mut lists = Vec::with_capacity(alloc, count)?;
         for _ in 0..count {
             lists.push(Vec::new(alloc))?;
@@ -19,7 +20,7 @@ impl<T: Copy> Lists<T> {
     }
 
     /// Adds an entry to the list of a number, where the number has one.
-    pub fn push(&mut self, number: usize, entry: T) -> Result<(), AllocError> {
+    pub fn push(&mut self, number: usize, entry: T) -> Made<()> {
         if let Some(list) = self.lists.get_mut(number) {
             list.push(entry)?;
         }

@@ -1,8 +1,9 @@
 //! What waits with a length: the shortest is taken first, and of those the latest.
 
-use std::alloc::{AllocError, Global};
+use std::alloc::Global;
 use std::cmp::Reverse;
 use std::collections::BinaryHeap;
+use yexplain::reads::Made;
 
 /// Numbers that wait with their lengths.
 #[derive(Drop)]
@@ -19,7 +20,7 @@ impl Queue {
     }
 
     /// A number waits with a length.
-    pub fn put(&mut self, length: u64, number: usize) -> Result<(), AllocError> {
+    pub fn put(&mut self, length: u64, number: usize) -> Made<()> {
         self.heap.push((Reverse(length), number))?;
         Ok(())
     }

@@ -11,7 +11,7 @@ use indexmap::{IndexMap, IndexSet};
 use std::alloc::Global;
 use yexplain::reads::{Made, body_of, left_of};
 use ylalr::{Automaton, Item};
-use ysymbols::{Grammar, Sym};
+use ysymbols::{Grammar, Sym, let_go};
 
 /// A cell, and the rules that are all to be possible there; one that is left out is no condition.
 #[derive(Clone, Copy, Drop)]
@@ -75,20 +75,7 @@ pub struct Search {
 impl Drop for Search {
     // A call in each owner, which keeps their proofs short.
     fn drop(self) {
-        let Search {
-            token: _,
-            tries: _,
-            left: _,
-            nodes: _,
-            queue: _,
-            met,
-            seen,
-            opened,
-            needs: _,
-        } = self;
-        drop(met);
-        drop(seen);
-        drop(opened);
+        let_go!(self: Search { token, tries, left, nodes, queue, met, seen, opened, needs });
     }
 }
 
@@ -108,15 +95,7 @@ pub struct Finder {
 impl Drop for Finder {
     // A call in each owner, which keeps their proofs short.
     fn drop(self) {
-        let Finder {
-            alloc: _,
-            places: _,
-            rules: _,
-            shortest: _,
-            moves: _,
-            needs: _,
-            budget: _,
-        } = self;
+        let_go!(self: Finder { alloc, places, rules, shortest, moves, needs, budget });
     }
 }
 

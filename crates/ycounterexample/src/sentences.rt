@@ -3,8 +3,8 @@
 use crate::queue::Queue;
 use crate::search::Finder;
 use indexmap::IndexSet;
-use std::alloc::{AllocError, Global};
-use yexplain::reads::body_of;
+use std::alloc::Global;
+use yexplain::reads::{Made, body_of};
 use ysymbols::{Grammar, Sym};
 
 /// The most symbols and tokens of a form that is taken in.
@@ -44,7 +44,7 @@ impl Sentences {
     }
 
     /// Takes a form in, where it is new and not too long.
-    pub fn add(&mut self, finder: &Finder, form: Vec<Sym>) -> Result<(), AllocError> {
+    pub fn add(&mut self, finder: &Finder, form: Vec<Sym>) -> Made<()> {
         self.symbols = self.symbols.saturating_add(form.len());
         let length = finder.length(&form);
         if self.left == 0 || form.len() > MOST_SYMBOLS || length > MOST_SYMBOLS as u64 {
@@ -65,7 +65,7 @@ impl Sentences {
         alloc: Global,
         finder: &Finder,
         grammar: &Grammar,
-    ) -> Result<Option<Vec<Sym>>, AllocError> {
+    ) -> Made<Option<Vec<Sym>>> {
         let Some((_, number)) = self.queue.take() else {
             return Ok(None);
         };
@@ -91,7 +91,7 @@ impl Sentences {
         grammar: &Grammar,
         form: &[Sym],
         place: usize,
-    ) -> Result<(), AllocError> {
+    ) -> Made<()> {
         let symbol = form.get(place).copied().unwrap_or(0);
         for rule in finder.rules(symbol) {
             if self.left > 0 {

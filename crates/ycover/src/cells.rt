@@ -1,7 +1,7 @@
 //! The filled cells of tables, numbered by states and tokens.
 
-use std::alloc::{AllocError, Global};
-use yexplain::reads::{action_of, default_of, grammar_of};
+use std::alloc::Global;
+use yexplain::reads::{Made, action_of, default_of, grammar_of};
 use ylalr::{ERROR, token_count};
 use ysymbols::Sym;
 use ytables::{Action, Tables};
@@ -50,7 +50,7 @@ fn is_filled(token: Sym, action: Action) -> bool {
 
 impl Cells {
     /// The filled cells of tables.
-    pub fn new(alloc: Global, tables: &Tables) -> Result<Cells, AllocError> {
+    pub fn new(alloc: Global, tables: &Tables) -> Made<Cells> {
         let mut found = Cells {
             cells: Vec::new(alloc),
             starts: Vec::new(alloc),
@@ -64,14 +64,14 @@ impl Cells {
     }
 
     /// The cells of a state are there.
-    fn end_row(&mut self) -> Result<(), AllocError> {
+    fn end_row(&mut self) -> Made<()> {
         let count = self.cells.len();
         self.starts.push(count)?;
         Ok(())
     }
 
     /// Adds the cells of a state.
-    fn add_row(&mut self, tables: &Tables, state: usize) -> Result<(), AllocError> {
+    fn add_row(&mut self, tables: &Tables, state: usize) -> Made<()> {
         if default_of(tables, state).is_some() {
             let token = EVERY;
             self.cells.push(Cell { state, token })?;

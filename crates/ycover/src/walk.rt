@@ -3,7 +3,7 @@
 use crate::cells::Cells;
 use crate::steps::step;
 use crate::uses::Uses;
-use std::alloc::{AllocError, Global};
+use std::alloc::Global;
 use std::io::{self, ErrorKind};
 use yinput::session_of;
 use yparse::machine::StepFault;
@@ -52,13 +52,6 @@ fn astray() -> io::Error {
     io::Error::from(ErrorKind::Other)
 }
 
-/// The same tokens.
-fn copy_of(alloc: Global, tokens: &[Sym]) -> Result<Vec<Sym>, AllocError> {
-    let mut symbols = Vec::with_capacity(alloc, tokens.len())?;
-    symbols.extend_from_slice(tokens)?;
-    Ok(symbols)
-}
-
 impl Walker {
     /// Nothing is used yet.
     pub fn new(alloc: Global, tables: Tables) -> io::Result<Walker> {
@@ -74,7 +67,7 @@ impl Walker {
 
     /// Goes through a parse over these tokens.
     pub fn walk(&mut self, tokens: &[Sym]) -> io::Result<()> {
-        let symbols = copy_of(self.alloc, tokens)?;
+        let symbols = Vec::from_slice(self.alloc, tokens)?;
         let tables = self.tables.take().ok_or(astray())?;
         match session_of(self.alloc, tables, Tokens { symbols }) {
             Some(session) => self.follow(session),

@@ -5,7 +5,7 @@ use crate::moves::make_move;
 use crate::reload::reload;
 use crate::text::{put_ahead, put_upcoming};
 use crate::views::View;
-use std::alloc::{AllocError, Global};
+use std::alloc::Global;
 use std::io::{self, BufReader, ErrorKind, Read, Write};
 use std::rt::Files;
 use std::str;
@@ -15,7 +15,7 @@ use ycommands::refusal::{Refusal, misused, put_refusal};
 use ycommands::travel::{Move, move_of, name_at_fault};
 use ycommands::verb::Verb;
 use ycommands::words::{Found, first_word};
-use yexplain::reads::grammar_of;
+use yexplain::reads::{Made, grammar_of};
 use yinput::Parse;
 use yinput::source::Source;
 use yview::grammar_view::put_grammar;
@@ -64,14 +64,14 @@ impl<F: Files + AllocGlobal, W: Write> Desk<'_, F, W> {
     }
 
     /// Makes a move, which an empty line then repeats.
-    fn go(&mut self, wanted: Move) -> Result<(), AllocError> {
+    fn go(&mut self, wanted: Move) -> Made<()> {
         let (alloc, progress) = (self.alloc(), self.setting.terminal);
         self.last = Some(wanted);
         make_move(alloc, &mut self.parse, &mut self.page, wanted, progress)
     }
 
     /// Makes the move that a command means.
-    fn travel(&mut self, verb: Verb, text: &str) -> Result<(), AllocError> {
+    fn travel(&mut self, verb: Verb, text: &str) -> Made<()> {
         match move_of(self.parse.session(), self.parse.tokens(), verb, text) {
             Ok(wanted) => self.go(wanted),
             Err(Refusal::NoNumber) => {
@@ -86,7 +86,7 @@ impl<F: Files + AllocGlobal, W: Write> Desk<'_, F, W> {
     }
 
     /// Changes the upcoming tokens, or writes them to a file.
-    fn edit(&mut self, verb: Verb, text: &str) -> Result<(), AllocError> {
+    fn edit(&mut self, verb: Verb, text: &str) -> Made<()> {
         let (alloc, page) = (self.alloc(), &mut self.page);
         let wants_word = verb != Verb::Drop;
         match verb {
@@ -102,7 +102,7 @@ impl<F: Files + AllocGlobal, W: Write> Desk<'_, F, W> {
     }
 
     /// Shows what needs no arguments of the command.
-    fn look(&mut self, verb: Verb) -> Result<(), AllocError> {
+    fn look(&mut self, verb: Verb) -> Made<()> {
         let (parse, page) = (&self.parse, &mut self.page);
         match verb {
             Verb::Where => {
@@ -125,7 +125,7 @@ impl<F: Files + AllocGlobal, W: Write> Desk<'_, F, W> {
     }
 
     /// Shows what the arguments of the command ask for.
-    fn show(&mut self, verb: Verb, text: &str) -> Result<(), AllocError> {
+    fn show(&mut self, verb: Verb, text: &str) -> Made<()> {
         match verb {
             Verb::State => self.view().show_state(text),
             Verb::Why => return self.view().show_why(text),

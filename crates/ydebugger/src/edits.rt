@@ -2,10 +2,11 @@
 
 use crate::history::put_tokens;
 use crate::views::View;
-use std::alloc::{AllocError, Global};
+use std::alloc::Global;
 use std::io::{self, ErrorKind, Write};
 use std::rt::Files;
 use ycommands::refusal::{Refusal, edit_words};
+use yexplain::reads::Made;
 use yfiles::writing::{write_new, write_over};
 use yinput::Parse;
 use yinput::source::Source;
@@ -28,7 +29,7 @@ pub fn insert<W: Write>(
     parse: &mut Parse,
     page: &mut Page<W>,
     name: &str,
-) -> Result<(), AllocError> {
+) -> Made<()> {
     match parse.insert(name.as_bytes()) {
         Ok(Some(kind)) => put_edit(page, parse, Ok(kind)),
         Ok(None) => {

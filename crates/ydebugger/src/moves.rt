@@ -1,11 +1,12 @@
 //! Moves: steps forward and back, and to where a condition holds.
 
 use crate::text::put_ahead;
-use std::alloc::{AllocError, Global};
+use std::alloc::Global;
 use std::io::Write;
 use ycommands::condition::{Condition, put_cell};
 use ycommands::refusal::fault_words;
 use ycommands::travel::{LAST, Move, tells_each, until_of};
+use yexplain::reads::Made;
 use yinput::Parse;
 use yparse::machine::{StepFault, StepKind};
 use yview::page::Page;
@@ -43,7 +44,7 @@ struct Telling {
 
 impl Telling {
     /// Nothing was written yet.
-    fn new(alloc: Global, each: bool, progress: bool) -> Result<Telling, AllocError> {
+    fn new(alloc: Global, each: bool, progress: bool) -> Made<Telling> {
         Ok(Telling {
             each,
             progress,
@@ -184,7 +185,7 @@ pub fn make_move<W: Write>(
     page: &mut Page<W>,
     wanted: Move,
     progress: bool,
-) -> Result<(), AllocError> {
+) -> Made<()> {
     let mut telling = Telling::new(alloc, tells_each(wanted), progress)?;
     let course = course_of(parse.session().position(), wanted);
     let end = go(parse, page, &mut telling, course);

@@ -1,7 +1,7 @@
 //! Commands that show something.
 
 use crate::history::{SOME_STEPS, put_history};
-use std::alloc::{AllocError, Global};
+use std::alloc::Global;
 use std::io::Write;
 use ycommands::condition::{
     condition_near, is_digits, number_in, symbol_named, symbol_near, token_named,
@@ -11,12 +11,11 @@ use ycommands::travel::LAST;
 use ycommands::verb::Verb;
 use ycommands::words::first_word;
 use ycounterexample::groups::Conflicts;
-use yexplain::reads::grammar_of;
+use yexplain::reads::{Made, grammar_of};
 use yexplain::sources::sources_of;
 use yexplain::why::{Question, explain};
 use yinput::Parse;
 use yinput::expected::{Wanted, expected};
-use yparse::Session;
 use yparse::machine::Mode;
 use yreasons::Reasons;
 use yreports::kinds::{put_counts, put_named, put_states};
@@ -24,7 +23,7 @@ use ysymbols::{Grammar, Sym};
 use yview::derivation::{SOME_FORMS, put_derivation, size_of_derivation};
 use yview::grammar_view::Rules;
 use yview::page::Page;
-use yview::reading::{last_rule, last_state, name_of, stack_state, token_ahead};
+use yview::reading::{last_rule, last_state, name_of, states_of_stack, token_ahead};
 use yview::state_view::put_state;
 use yview::symbol_view::put_symbol;
 use yview::tree_text::{SOME_LINES, put_tree, put_trees};
@@ -61,26 +60,12 @@ fn put_mode<W: Write>(page: &mut Page<W>, mode: Mode) {
 }
 
 /// Why a cell says what it says, and where the token of a reduction comes from.
-fn put_why<W: Write>(
-    alloc: Global,
-    page: &mut Page<W>,
-    asked: Question<'_>,
-) -> Result<(), AllocError> {
+fn put_why<W: Write>(alloc: Global, page: &mut Page<W>, asked: Question<'_>) -> Made<()> {
     // The page remembers a fault.
     let _ = explain(page, asked);
     let reasons = Reasons::of(alloc, asked.tables.automaton())?;
     let _ = asked.put_sources(page, &sources_of(alloc, &reasons, asked)?);
     Ok(())
-}
-
-/// The states of the stack from the bottom, the first state below it.
-fn states_of_stack(alloc: Global, session: &Session) -> Result<Vec<usize>, AllocError> {
-    let mut states = Vec::new(alloc);
-    states.push(0)?;
-    for index in 0..session.view().stack_len() {
-        states.push(stack_state(session, index))?;
-    }
-    Ok(states)
 }
 
 /// Tokens by name, as a list that ends its last line.
@@ -124,7 +109,7 @@ impl<W: Write> View<'_, W> {
     }
 
     /// Writes a refusal, and the word that is near to the one at fault.
-    pub fn refuse_name(&mut self, name: &str, refusal: Refusal) -> Result<(), AllocError> {
+    pub fn refuse_name(&mut self, name: &str, refusal: Refusal) -> Made<()> {
         let parse = self.parse;
         let near = match refusal {
             Refusal::NoCondition => condition_near(self.alloc, name)?,
@@ -153,7 +138,7 @@ impl<W: Write> View<'_, W> {
 
     /// Why the cell of the state and the token ahead says what it says, or that of another state or
     /// another token, whose number comes before its name.
-    pub fn show_why(&mut self, text: &str) -> Result<(), AllocError> {
+    pub fn show_why(&mut self, text: &str) -> Made<()> {
         let parse = self.parse;
         let (first, name) = first_word(text);
         if !is_digits(first) {
@@ -170,7 +155,7 @@ impl<W: Write> View<'_, W> {
 
     /// Why the cell of a state and a token says what it says; of the token ahead, where none is
     /// named.
-    fn show_cell(&mut self, state: usize, name: &str) -> Result<(), AllocError> {
+    fn show_cell(&mut self, state: usize, name: &str) -> Made<()> {
         let parse = self.parse;
         let session = parse.session();
         let asked = Question {
@@ -191,7 +176,7 @@ impl<W: Write> View<'_, W> {
     }
 
     /// The tokens that can come here; none where the parse isn't running.
-    pub fn show_expected(&mut self) -> Result<(), AllocError> {
+    pub fn show_expected(&mut self) -> Made<()> {
         let parse = self.parse;
         let (session, tables) = (parse.session(), parse.tables());
         let none = match session.view().mode() {
@@ -210,7 +195,7 @@ impl<W: Write> View<'_, W> {
     }
 
     /// The conflicts of the tables by kinds: each with a cell, the first 20 explained.
-    pub fn show_conflicts(&mut self) -> Result<(), AllocError> {
+    pub fn show_conflicts(&mut self) -> Made<()> {
         let parse = self.parse;
         let (tables, lines) = (parse.tables(), parse.lines());
         let found = Conflicts::new(self.alloc, tables)?;
@@ -239,7 +224,7 @@ impl<W: Write> View<'_, W> {
     }
 
     /// A symbol.
-    pub fn show_symbol(&mut self, text: &str) -> Result<(), AllocError> {
+    pub fn show_symbol(&mut self, text: &str) -> Made<()> {
         let parse = self.parse;
         match symbol_named(parse.session(), text) {
             _ if text.is_empty() => put_refusal(self.page, misused(Verb::Symbol)),
@@ -250,7 +235,7 @@ impl<W: Write> View<'_, W> {
     }
 
     /// The tree of an entry of the stack.
-    fn show_entry(&mut self, entry: &str, most: usize) -> Result<(), AllocError> {
+    fn show_entry(&mut self, entry: &str, most: usize) -> Made<()> {
         let parse = self.parse;
         let entries = parse.session().view().stack_len();
         match number_in(entry, "entries", 1, entries) {
@@ -262,7 +247,7 @@ impl<W: Write> View<'_, W> {
     }
 
     /// The trees of the stack, or that of one entry.
-    pub fn show_tree(&mut self, text: &str) -> Result<(), AllocError> {
+    pub fn show_tree(&mut self, text: &str) -> Made<()> {
         let parse = self.parse;
         match first_word(text) {
             ("", _) => put_trees(self.alloc, self.page, parse.session(), SOME_LINES),
@@ -278,7 +263,7 @@ impl<W: Write> View<'_, W> {
 
     /// The rightmost derivation up to here; how many bytes all of it would take, where that is much
     /// and all of it is wanted.
-    pub fn show_derivation(&mut self, text: &str) -> Result<(), AllocError> {
+    pub fn show_derivation(&mut self, text: &str) -> Made<()> {
         let parse = self.parse;
         let most = match amount(text, SOME_FORMS) {
             _ if text == "all!" => usize::MAX,

@@ -1,14 +1,15 @@
 //! `ydebug check` for programs.
 
 use crate::diagnostic::{Diagnostic, Severity};
-use crate::document::Said;
+use crate::document::{Said, VERSION};
 use crate::format::Format;
 use crate::inputs::{InputSheet, Judged, answer_of, refused};
 use crate::messaged::Messaged;
 use crate::told::{About, add_all, checked};
-use std::alloc::{AllocError, Global};
+use std::alloc::Global;
 use std::io::{self, Read, Write};
 use std::rt::Files;
+use yexplain::reads::Made;
 use yfiles::reading::{Limited, all_bytes};
 use yinput::language::{Input, LanguageFiles};
 use yinput::verdict::verdict_on;
@@ -51,7 +52,7 @@ struct Sheets {
 
 impl Sheets {
     /// Adds what is said of an input.
-    fn add(&mut self, judged: Judged) -> Result<(), AllocError> {
+    fn add(&mut self, judged: Judged) -> Made<()> {
         let Judged {
             sheet,
             diagnostics,
@@ -65,7 +66,7 @@ impl Sheets {
 }
 
 /// The bytes again, where there are some.
-fn copy_of(alloc: Global, bytes: &io::Result<Option<Vec<u8>>>) -> Result<Vec<u8>, AllocError> {
+fn copy_of(alloc: Global, bytes: &io::Result<Option<Vec<u8>>>) -> Made<Vec<u8>> {
     match bytes {
         Ok(Some(bytes)) => Vec::from_slice(alloc, bytes),
         _ => Ok(Vec::new(alloc)),
@@ -160,6 +161,7 @@ fn put_said<'a, W: Write>(
     out: &mut W,
 ) -> io::Result<u8> {
     let said = Said {
+        version: VERSION,
         form: "check",
         grammar: asked.files.grammar.path,
         status,

@@ -1,9 +1,11 @@
 //! What is said of a place of a file.
 
 use serde::Serialize;
-use std::alloc::{AllocError, Global};
+use std::alloc::Global;
 use std::io::{self, Write};
 use yexplain::lines::Spot;
+use yexplain::reads::Made;
+use ysymbols::let_go;
 
 /// How bad something is.
 #[derive(Clone, Copy, Drop, PartialEq, Eq)]
@@ -47,14 +49,7 @@ pub struct Diagnostic {
 impl Drop for Diagnostic {
     // A call in each owner, which keeps their proofs short.
     fn drop(self) {
-        let Diagnostic {
-            file: _,
-            line: _,
-            column: _,
-            severity: _,
-            message: _,
-            notes: _,
-        } = self;
+        let_go!(self: Diagnostic { file, line, column, severity, message, notes });
     }
 }
 
@@ -66,7 +61,7 @@ impl Diagnostic {
         spot: Option<Spot>,
         severity: Severity,
         message: String,
-    ) -> Result<Diagnostic, AllocError> {
+    ) -> Made<Diagnostic> {
         let file = match file {
             Some(path) => Some(String::from_str(alloc, path)?),
             None => None,

@@ -7,9 +7,10 @@ use crate::kinds::KindSheet;
 use serde::Serialize;
 use std::alloc::Global;
 use std::io::{self, ErrorKind, Write};
+use ysymbols::let_go;
 
 /// The version of the document.
-const VERSION: usize = 1;
+pub const VERSION: usize = 1;
 
 /// The conflicts of a grammar.
 #[derive(Serialize)]
@@ -30,20 +31,17 @@ pub struct ConflictSheet {
 impl Drop for ConflictSheet {
     // A call in each owner, which keeps their proofs short.
     fn drop(self) {
-        let ConflictSheet {
-            shift_reduce: _,
-            reduce_reduce: _,
-            cells: _,
-            accepted: _,
-            kinds: _,
-            others: _,
-        } = self;
+        let_go!(self: ConflictSheet {
+            shift_reduce, reduce_reduce, cells, accepted, kinds, others
+        });
     }
 }
 
-/// All that is said.
-#[derive(Clone, Copy)]
+/// All that is said: the document.
+#[derive(Clone, Copy, Serialize)]
 pub struct Said<'a> {
+    /// The version of the document.
+    pub version: usize,
     /// The form of the command line.
     pub form: &'static str,
     /// The path of the grammar file.
@@ -58,31 +56,10 @@ pub struct Said<'a> {
     pub inputs: Option<&'a [InputSheet]>,
 }
 
-/// The document.
-#[derive(Drop, Serialize)]
-struct Document<'a> {
-    version: usize,
-    form: &'static str,
-    grammar: &'a str,
-    status: u8,
-    diagnostics: &'a [Diagnostic],
-    conflicts: Option<&'a ConflictSheet>,
-    inputs: Option<&'a [InputSheet]>,
-}
-
 impl Said<'_> {
     /// Writes a document and a newline.
     fn put_json<W: Write>(self, alloc: Global, out: &mut W) -> io::Result<()> {
-        let document = Document {
-            version: VERSION,
-            form: self.form,
-            grammar: self.grammar,
-            status: self.status,
-            diagnostics: self.diagnostics,
-            conflicts: self.conflicts,
-            inputs: self.inputs,
-        };
-        match serde_json::to_vec(alloc, &document) {
+        match serde_json::to_vec(alloc, &self) {
             Ok(json) => {
                 out.write_all(&json)?;
                 out.write_all(b"\n")

@@ -4,14 +4,15 @@ use crate::diagnostic::{Diagnostic, Severity};
 use crate::kinds::names_of;
 use crate::told::About;
 use serde::Serialize;
-use std::alloc::{AllocError, Global};
+use std::alloc::Global;
 use std::io;
+use yexplain::reads::Made;
 use yfaults::opening::word_place;
 use yfaults::shown::Place;
 use yinput::language::Input;
 use yinput::spelled::Spoken;
 use yinput::verdict::{Rejection, Verdict};
-use ysymbols::Grammar;
+use ysymbols::{Grammar, let_go};
 
 /// What comes of an input.
 #[derive(Serialize)]
@@ -32,15 +33,7 @@ pub struct InputSheet {
 impl Drop for InputSheet {
     // A call in each owner, which keeps their proofs short.
     fn drop(self) {
-        let InputSheet {
-            file: _,
-            verdict: _,
-            steps: _,
-            number: _,
-            token: _,
-            expected: _,
-            unknown: _,
-        } = self;
+        let_go!(self: InputSheet { file, verdict, steps, number, token, expected, unknown });
     }
 }
 
@@ -66,7 +59,7 @@ fn word_of(verdict: &Verdict) -> &'static str {
 
 impl InputSheet {
     /// That of an input of which no more is known.
-    fn new(alloc: Global, path: &str, verdict: &'static str) -> Result<InputSheet, AllocError> {
+    fn new(alloc: Global, path: &str, verdict: &'static str) -> Made<InputSheet> {
         Ok(InputSheet {
             file: String::from_str(alloc, path)?,
             verdict,
@@ -79,12 +72,7 @@ impl InputSheet {
     }
 
     /// Notes where it is rejected.
-    fn reject(
-        &mut self,
-        alloc: Global,
-        grammar: &Grammar,
-        rejection: &Rejection,
-    ) -> Result<(), AllocError> {
+    fn reject(&mut self, alloc: Global, grammar: &Grammar, rejection: &Rejection) -> Made<()> {
         let mut names = names_of(alloc, grammar, &[rejection.token])?;
         self.number = Some(rejection.number);
         self.token = names.pop();
@@ -94,12 +82,7 @@ impl InputSheet {
     }
 
     /// That of a verdict.
-    fn of(
-        alloc: Global,
-        grammar: &Grammar,
-        path: &str,
-        verdict: &Verdict,
-    ) -> Result<InputSheet, AllocError> {
+    fn of(alloc: Global, grammar: &Grammar, path: &str, verdict: &Verdict) -> Made<InputSheet> {
         let mut sheet = InputSheet::new(alloc, path, word_of(verdict))?;
         match verdict {
             Verdict::Accepted(steps) => sheet.steps = Some(*steps),

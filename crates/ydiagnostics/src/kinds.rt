@@ -9,10 +9,10 @@ use ycounterexample::finding::{Allows, Finding, List, Seeker};
 use ycounterexample::groups::{Conflicts, Group, Kind};
 use ycounterexample::trial::Trial;
 use yexplain::lines::Lines;
-use yexplain::reads::grammar_of;
+use yexplain::reads::{Made, grammar_of};
 use yexplain::text::{Name, RuleText};
 use yparse::Session;
-use ysymbols::{Grammar, Sym};
+use ysymbols::{Grammar, Sym, let_go};
 
 /// The most kinds for which lists are sought.
 const MOST_SOUGHT: usize = 200;
@@ -29,12 +29,7 @@ pub struct RuleSheet {
 impl Drop for RuleSheet {
     // A call in each owner, which keeps their proofs short.
     fn drop(self) {
-        let RuleSheet {
-            rule: _,
-            line: _,
-            column: _,
-            text: _,
-        } = self;
+        let_go!(self: RuleSheet { rule, line, column, text });
     }
 }
 
@@ -54,12 +49,7 @@ pub struct ListSheet {
 impl Drop for ListSheet {
     // A call in each owner, which keeps their proofs short.
     fn drop(self) {
-        let ListSheet {
-            rules: _,
-            both: _,
-            tokens: _,
-            parse: _,
-        } = self;
+        let_go!(self: ListSheet { rules, both, tokens, parse });
     }
 }
 
@@ -84,16 +74,7 @@ pub struct KindSheet {
 impl Drop for KindSheet {
     // A call in each owner, which keeps their proofs short.
     fn drop(self) {
-        let KindSheet {
-            state: _,
-            states: _,
-            last: _,
-            token: _,
-            taken: _,
-            rules: _,
-            more: _,
-            lists: _,
-        } = self;
+        let_go!(self: KindSheet { state, states, last, token, taken, rules, more, lists });
     }
 }
 
@@ -109,17 +90,13 @@ pub struct Shown<'a> {
 }
 
 /// The name of a symbol.
-fn named(alloc: Global, grammar: &Grammar, symbol: Sym) -> Result<String, AllocError> {
+fn named(alloc: Global, grammar: &Grammar, symbol: Sym) -> Made<String> {
     let name = Name(grammar, symbol);
     format!(in alloc; "{name}")
 }
 
 /// The names of symbols.
-pub fn names_of(
-    alloc: Global,
-    grammar: &Grammar,
-    symbols: &[Sym],
-) -> Result<Vec<String>, AllocError> {
+pub fn names_of(alloc: Global, grammar: &Grammar, symbols: &[Sym]) -> Made<Vec<String>> {
     let mut names = Vec::new(alloc);
     for symbol in symbols {
         names.push(named(alloc, grammar, *symbol)?)?;
@@ -139,7 +116,7 @@ fn word_of(trial: Trial) -> &'static str {
 }
 
 /// A list.
-fn list_sheet(alloc: Global, grammar: &Grammar, list: &List) -> Result<ListSheet, AllocError> {
+fn list_sheet(alloc: Global, grammar: &Grammar, list: &List) -> Made<ListSheet> {
     Ok(ListSheet {
         rules: Vec::from_slice(alloc, &list.rules)?,
         both: list.allows == Allows::Both,
@@ -149,11 +126,7 @@ fn list_sheet(alloc: Global, grammar: &Grammar, list: &List) -> Result<ListSheet
 }
 
 /// The lists that were found.
-fn list_sheets(
-    alloc: Global,
-    grammar: &Grammar,
-    finding: &Finding,
-) -> Result<Vec<ListSheet>, AllocError> {
+fn list_sheets(alloc: Global, grammar: &Grammar, finding: &Finding) -> Made<Vec<ListSheet>> {
     let mut lists = Vec::new(alloc);
     for list in &finding.lists {
         lists.push(list_sheet(alloc, grammar, list)?)?;
@@ -163,12 +136,7 @@ fn list_sheets(
 
 impl Shown<'_> {
     /// A rule.
-    fn rule_sheet(
-        self,
-        alloc: Global,
-        grammar: &Grammar,
-        rule: usize,
-    ) -> Result<RuleSheet, AllocError> {
+    fn rule_sheet(self, alloc: Global, grammar: &Grammar, rule: usize) -> Made<RuleSheet> {
         let (spot, text) = (self.lines.spot(rule), RuleText(grammar, rule));
         Ok(RuleSheet {
             rule,
@@ -179,12 +147,7 @@ impl Shown<'_> {
     }
 
     /// The rules of a kind.
-    fn rule_sheets(
-        self,
-        alloc: Global,
-        grammar: &Grammar,
-        kind: &Kind,
-    ) -> Result<Vec<RuleSheet>, AllocError> {
+    fn rule_sheets(self, alloc: Global, grammar: &Grammar, kind: &Kind) -> Made<Vec<RuleSheet>> {
         let mut rules = Vec::new(alloc);
         for rule in kind.rules() {
             rules.push(self.rule_sheet(alloc, grammar, *rule)?)?;
@@ -199,7 +162,7 @@ impl Shown<'_> {
         grammar: &Grammar,
         (kind, group): (&Kind, Group),
         lists: Option<Vec<ListSheet>>,
-    ) -> Result<KindSheet, AllocError> {
+    ) -> Made<KindSheet> {
         let rules = self.rule_sheets(alloc, grammar, kind)?;
         let all = kind.rivals.saturating_add(usize::from(!kind.shift));
         Ok(KindSheet {

@@ -1,19 +1,20 @@
 //! `ydebug conflicts` for programs.
 
 use crate::diagnostic::{Diagnostic, Severity};
-use crate::document::{ConflictSheet, Said};
+use crate::document::{ConflictSheet, Said, VERSION};
 use crate::format::Format;
 use crate::kinds::Shown;
 use crate::told::{About, add_all, checked};
-use std::alloc::{AllocError, Global};
+use std::alloc::Global;
 use std::io::{self, Write};
 use std::rt::Files;
 use yaccepted::conflict::Conflict;
+use yaccepted::expected::Counts;
 use yaccepted::judged::{self, Judged, Listed, judge};
 use yaccepted::opening::{Counted, File, open_counted};
 use ycounterexample::groups::Conflicts;
 use ycounterexample::trial::empty_session;
-use yexplain::reads::grammar_of;
+use yexplain::reads::{Made, grammar_of};
 use yexplain::text::Bytes;
 use yfaults::opening::Opened;
 use yparse::Session;
@@ -66,6 +67,7 @@ impl<'a> Asked<'a> {
 /// What is said, with this exit status and without conflicts.
 fn said<'a>(asked: Asked<'a>, status: u8, diagnostics: &'a [Diagnostic]) -> Said<'a> {
     Said {
+        version: VERSION,
         form: "conflicts",
         grammar: asked.file.path,
         status,
@@ -81,7 +83,7 @@ fn listed_diagnostic(
     path: &str,
     (front, severity): (&str, Severity),
     conflict: &Conflict,
-) -> Result<Diagnostic, AllocError> {
+) -> Made<Diagnostic> {
     let spot = Some(conflict.spot);
     let token = Bytes(&conflict.token);
     let message = format!(in alloc; "{front}conflict on {token}")?;
@@ -100,7 +102,7 @@ fn add_conflicts(
     path: &str,
     front: (&str, Severity),
     conflicts: &[Conflict],
-) -> Result<(), AllocError> {
+) -> Made<()> {
     for conflict in conflicts {
         all.push(listed_diagnostic(alloc, path, front, conflict)?)?;
     }
@@ -113,7 +115,7 @@ fn add_listed(
     all: &mut Vec<Diagnostic>,
     asked: Asked<'_>,
     listed: &Listed,
-) -> Result<(), AllocError> {
+) -> Made<()> {
     let grammar = asked.file.path;
     let list = asked.accepted.accept.unwrap_or(grammar);
     if listed.is_updated {
@@ -135,7 +137,7 @@ fn add_warnings(
     all: &mut Vec<Diagnostic>,
     asked: Asked<'_>,
     opened: &Opened,
-) -> Result<bool, AllocError> {
+) -> Made<bool> {
     let warnings = warnings_of(alloc, &opened.tables, &opened.lines)?;
     for warning in &warnings {
         let (path, spot, message) = (Some(asked.file.path), warning.spot, warning.text.clone()?);
@@ -152,10 +154,10 @@ fn sheet_of(
     found: &Conflicts,
     accepted: Option<bool>,
 ) -> io::Result<ConflictSheet> {
-    let counts = session.tables().conflicts();
+    let counts = Counts::of(session.tables());
     Ok(ConflictSheet {
-        shift_reduce: usize::try_from(counts.shift_reduce).unwrap_or(usize::MAX),
-        reduce_reduce: usize::try_from(counts.reduce_reduce).unwrap_or(usize::MAX),
+        shift_reduce: counts.shift_reduce,
+        reduce_reduce: counts.reduce_reduce,
         cells: found.cells,
         accepted,
         kinds: shown.kind_sheets(alloc, session, found)?,

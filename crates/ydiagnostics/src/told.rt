@@ -4,10 +4,11 @@
 //! Those after it that begin with two spaces help; with four they show the text of the place.
 
 use crate::diagnostic::{Diagnostic, Severity};
-use std::alloc::{AllocError, Global};
+use std::alloc::Global;
 use std::io::{self, ErrorKind};
 use std::str;
 use yexplain::lines::Spot;
+use yexplain::reads::Made;
 use yexplain::text::Escaped;
 
 /// What lines are about: the files that they may name, and how bad what they say is.
@@ -45,7 +46,7 @@ fn spot_at(text: &[u8]) -> (Option<Spot>, &[u8]) {
 }
 
 /// A text; bytes that are no UTF-8 are shown as hexadecimal digits.
-fn text_of(alloc: Global, bytes: &[u8]) -> Result<String, AllocError> {
+fn text_of(alloc: Global, bytes: &[u8]) -> Made<String> {
     match str::from_utf8(bytes) {
         Ok(text) => String::from_str(alloc, text),
         Err(_) => {
@@ -69,7 +70,7 @@ impl<'a> About<'a> {
     }
 
     /// What a line says that begins with a path, or with the name of the program.
-    fn begun(self, alloc: Global, line: &[u8]) -> Result<Option<Diagnostic>, AllocError> {
+    fn begun(self, alloc: Global, line: &[u8]) -> Made<Option<Diagnostic>> {
         let severity = self.severity;
         if let Some((path, rest)) = self.path_of(line) {
             let (spot, rest) = spot_at(rest);
@@ -86,12 +87,7 @@ impl<'a> About<'a> {
     }
 
     /// Takes a line.
-    fn take_line(
-        self,
-        alloc: Global,
-        found: &mut Vec<Diagnostic>,
-        line: &[u8],
-    ) -> Result<(), AllocError> {
+    fn take_line(self, alloc: Global, found: &mut Vec<Diagnostic>, line: &[u8]) -> Made<()> {
         if line.is_empty() || line.starts_with(b"    ") {
             return Ok(());
         }
@@ -127,7 +123,7 @@ pub fn checked(text: &[u8]) -> io::Result<()> {
 }
 
 /// Adds diagnostics to others.
-pub fn add_all(all: &mut Vec<Diagnostic>, more: Vec<Diagnostic>) -> Result<(), AllocError> {
+pub fn add_all(all: &mut Vec<Diagnostic>, more: Vec<Diagnostic>) -> Made<()> {
     for diagnostic in more {
         all.push(diagnostic)?;
     }

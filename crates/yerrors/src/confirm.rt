@@ -1,13 +1,14 @@
 //! A list of tokens put into a session, which goes on until an error is detected.
 
-use std::alloc::{AllocError, Global};
+use std::alloc::Global;
 use std::io;
 use ycounterexample::trial::{go_back, put_all, step};
+use yexplain::reads::Made;
 use yinput::expected::{Wanted, expected_within, states_after};
 use ylalr::END;
 use yparse::Session;
 use yparse::machine::StepKind;
-use ysymbols::Sym;
+use ysymbols::{Sym, let_go};
 use ytables::Tables;
 use yview::reading::{stack_symbol, token_ahead};
 
@@ -54,12 +55,7 @@ pub struct Confirmed {
 impl Drop for Confirmed {
     // A call in each owner, which keeps their proofs short.
     fn drop(self) {
-        let Confirmed {
-            tokens: _,
-            last: _,
-            stack: _,
-            wanted: _,
-        } = self;
+        let_go!(self: Confirmed { tokens, last, stack, wanted });
     }
 }
 
@@ -88,7 +84,7 @@ fn detects_in(session: &mut Session, tokens: &[Sym], last: Sym, state: usize) ->
 }
 
 /// The symbols of the stack.
-fn stack_of(alloc: Global, session: &Session) -> Result<Vec<Sym>, AllocError> {
+fn stack_of(alloc: Global, session: &Session) -> Made<Vec<Sym>> {
     let mut stack = Vec::new(alloc);
     for index in 0..session.view().stack_len() {
         stack.push(stack_symbol(session, index))?;
@@ -97,12 +93,7 @@ fn stack_of(alloc: Global, session: &Session) -> Result<Vec<Sym>, AllocError> {
 }
 
 /// The tokens that could come after some tokens.
-fn wanted_after(
-    alloc: Global,
-    tables: &Tables,
-    tokens: &[Sym],
-    left: &mut Left,
-) -> Result<Wanted, AllocError> {
+fn wanted_after(alloc: Global, tables: &Tables, tokens: &[Sym], left: &mut Left) -> Made<Wanted> {
     let states = states_after(alloc, tables, tokens)?;
     let most = left.part();
     let mut rest = most;

@@ -8,10 +8,10 @@ use crate::search::{Search, can_stand};
 use crate::ways::Ways;
 use std::alloc::{AllocError, Global};
 use std::io;
-use yexplain::reads::{action_of, default_of, grammar_of};
+use yexplain::reads::{Made, action_of, default_of, grammar_of};
 use ylalr::token_count;
 use yparse::Session;
-use ysymbols::Sym;
+use ysymbols::{Sym, let_go};
 use ytables::{Action, Tables};
 
 /// Why there is no list for a state.
@@ -67,7 +67,7 @@ pub struct Errors {
 impl Drop for Errors {
     // A call in each owner, which keeps their proofs short.
     fn drop(self) {
-        let Errors { outcomes: _ } = self;
+        let_go!(self: Errors { outcomes });
     }
 }
 
@@ -104,12 +104,7 @@ fn reason_of(search: &Search<'_>, absent: &[bool], state: usize, is_done: bool) 
 }
 
 /// The list of tokens that a search has for an error of a state.
-fn list_of(
-    alloc: Global,
-    search: &Search<'_>,
-    state: usize,
-    detected: Detected,
-) -> Result<Sought, AllocError> {
+fn list_of(alloc: Global, search: &Search<'_>, state: usize, detected: Detected) -> Made<Sought> {
     if detected.cost > MOST_TOKENS {
         return Ok(Sought::Without(Reason::Long));
     }
@@ -121,7 +116,7 @@ fn list_of(
 
 /// What a search has for each state, the last one first, by inputs without the tokens that are
 /// marked.
-fn seek(alloc: Global, tables: &Tables, absent: &[bool]) -> Result<Vec<Sought>, AllocError> {
+fn seek(alloc: Global, tables: &Tables, absent: &[bool]) -> Made<Vec<Sought>> {
     let mut search = Search::new(alloc, Ways::new(alloc, tables)?, absent)?;
     let is_done = search.run()?;
     let mut found = Vec::new(alloc);

@@ -3,7 +3,8 @@
 
 use crate::rows::{Part, Rows, Taken};
 use crate::search::Search;
-use std::alloc::{AllocError, Global};
+use std::alloc::Global;
+use yexplain::reads::Made;
 use ysymbols::Sym;
 
 /// The most parts that are opened for one list.
@@ -30,7 +31,7 @@ fn with_token(part: Part, token: Sym) -> Part {
 
 impl Writing {
     /// Puts the parts of a row with a token ahead after it, and says whether it has them.
-    fn open(&mut self, rows: &Rows, row: usize, token: Sym) -> Result<bool, AllocError> {
+    fn open(&mut self, rows: &Rows, row: usize, token: Sym) -> Made<bool> {
         match rows.taken(row, token) {
             Some(Taken { first, second }) => {
                 self.parts.push(with_token(second, token))?;
@@ -42,7 +43,7 @@ impl Writing {
     }
 
     /// Takes a part: a token is written, a row is opened. Says whether that was done.
-    fn take(&mut self, rows: &Rows, part: Part) -> Result<bool, AllocError> {
+    fn take(&mut self, rows: &Rows, part: Part) -> Made<bool> {
         match part {
             Part::Nothing => Ok(true),
             Part::Token(token) => {
@@ -55,7 +56,7 @@ impl Writing {
     }
 
     /// Takes all parts, and says whether that was done.
-    fn take_all(&mut self, rows: &Rows) -> Result<bool, AllocError> {
+    fn take_all(&mut self, rows: &Rows) -> Made<bool> {
         for _ in 0..MOST_PARTS {
             let Some(part) = self.parts.pop() else {
                 return Ok(true);
@@ -71,12 +72,7 @@ impl Writing {
 impl Search<'_> {
     /// A shortest list of tokens after which a state has a token ahead; none where the search has
     /// none, or writing it out takes too many parts.
-    pub fn list(
-        &self,
-        alloc: Global,
-        state: usize,
-        token: Sym,
-    ) -> Result<Option<Vec<Sym>>, AllocError> {
+    pub fn list(&self, alloc: Global, state: usize, token: Sym) -> Made<Option<Vec<Sym>>> {
         let Some(row) = self.row(state) else {
             return Ok(None);
         };

@@ -2,10 +2,11 @@
 
 use crate::sets::{Known, Sets, Source};
 use indexmap::{IndexMap, IndexSet};
-use std::alloc::{AllocError, Global};
+use std::alloc::Global;
 use ycounterexample::queue::Queue;
+use yexplain::reads::Made;
 use ylalr::Item;
-use ysymbols::Sym;
+use ysymbols::{Sym, let_go};
 
 /// The most steps of a search: words of sets that are made, and rows that are looked at.
 pub const MOST_STEPS: usize = 100_000_000;
@@ -146,20 +147,9 @@ pub struct Rows {
 impl Drop for Rows {
     // A call in each owner, which keeps their proofs short.
     fn drop(self) {
-        let Rows {
-            alloc: _,
-            sets: _,
-            spots,
-            of_spots: _,
-            numbers,
-            rows: _,
-            waiting: _,
-            queue: _,
-            steps: _,
-            words: _,
-        } = self;
-        drop(spots);
-        drop(numbers);
+        let_go!(self: Rows {
+            alloc, sets, spots, of_spots, numbers, rows, waiting, queue, steps, words
+        });
     }
 }
 
@@ -202,7 +192,7 @@ impl Rows {
     }
 
     /// Makes an empty set.
-    pub fn make_set(&mut self) -> Result<usize, AllocError> {
+    pub fn make_set(&mut self) -> Made<usize> {
         let width = self.sets.width();
         self.keep(width);
         self.sets.make()
@@ -258,7 +248,7 @@ impl Rows {
     }
 
     /// The place of a spot.
-    fn place(&mut self, spot: Spot) -> Result<usize, AllocError> {
+    fn place(&mut self, spot: Spot) -> Made<usize> {
         let (place, is_new) = self.spots.insert_full(spot)?;
         if is_new {
             self.of_spots.push(Vec::new(self.alloc))?;
@@ -267,7 +257,7 @@ impl Rows {
     }
 
     /// Makes a row.
-    fn make(&mut self, key: Key, place: usize) -> Result<usize, AllocError> {
+    fn make(&mut self, key: Key, place: usize) -> Made<usize> {
         let known = self.make_set()?;
         self.keep(WORDS_OF_ROW);
         let row = self.rows.len();
@@ -286,7 +276,7 @@ impl Rows {
     }
 
     /// The row of a key, which is made where there is none.
-    fn number(&mut self, key: Key) -> Result<usize, AllocError> {
+    fn number(&mut self, key: Key) -> Made<usize> {
         match self.find(key) {
             Some(row) => Ok(row),
             None => {
@@ -297,7 +287,7 @@ impl Rows {
     }
 
     /// Makes a set wait to come into a row.
-    fn wait(&mut self, row: usize, level: Level) -> Result<(), AllocError> {
+    fn wait(&mut self, row: usize, level: Level) -> Made<()> {
         let at = self.sets.copy(Source::all(level.at))?;
         let level = Level { at, ..level };
         // the first to wait is taken first: the queue takes the greatest number
@@ -311,12 +301,7 @@ impl Rows {
     }
 
     /// Keeps by which way tokens come to be ahead in a row, and makes them wait.
-    fn keep_origin(
-        &mut self,
-        row: usize,
-        origin: Origin,
-        waits: Option<usize>,
-    ) -> Result<(), AllocError> {
+    fn keep_origin(&mut self, row: usize, origin: Origin, waits: Option<usize>) -> Made<()> {
         let width = self.sets.width();
         self.keep(width.saturating_add(WORDS_OF_ORIGIN));
         if let Some(found) = self.rows.get_mut(row) {
@@ -333,13 +318,7 @@ impl Rows {
 
     /// Tokens wait to come into a row after so many others, which these parts are, but for those
     /// that it has, and those that wait already.
-    pub fn put(
-        &mut self,
-        key: Key,
-        cost: u64,
-        source: Source,
-        taken: Taken,
-    ) -> Result<(), AllocError> {
+    pub fn put(&mut self, key: Key, cost: u64, source: Source, taken: Taken) -> Made<()> {
         let row = self.number(key)?;
         let width = self.sets.width();
         self.spend(width);
@@ -360,7 +339,7 @@ impl Rows {
 
     /// What waits in a row with so many tokens before it comes into it, but for what it has; none
     /// where it has all.
-    fn settle(&mut self, row: usize, cost: u64) -> Result<Option<Level>, AllocError> {
+    fn settle(&mut self, row: usize, cost: u64) -> Made<Option<Level>> {
         let Some(found) = self.rows.get_mut(row) else {
             return Ok(None);
         };
@@ -379,7 +358,7 @@ impl Rows {
     }
 
     /// What waits by its number in the queue comes into its row.
-    fn settle_number(&mut self, number: usize) -> Result<Option<(usize, Level)>, AllocError> {
+    fn settle_number(&mut self, number: usize) -> Made<Option<(usize, Level)>> {
         let place = usize::MAX.saturating_sub(number);
         match self.waiting.get(place).copied() {
             Some((row, cost)) => {
@@ -391,7 +370,7 @@ impl Rows {
     }
 
     /// The next tokens that come into a row, after the fewest tokens: the row and its new level.
-    pub fn take(&mut self) -> Result<Option<(usize, Level)>, AllocError> {
+    pub fn take(&mut self) -> Made<Option<(usize, Level)>> {
         for _ in 0..self.waiting.len() {
             let Some((_, number)) = self.queue.take() else {
                 return Ok(None);

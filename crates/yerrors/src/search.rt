@@ -6,10 +6,10 @@ use crate::rows::{Key, Rows, Spot, Taken};
 use crate::sets::Source;
 use crate::ways::{Ways, before_dot};
 use indexmap::IndexMap;
-use std::alloc::{AllocError, Global};
-use yexplain::reads::{is_complete, items_of, left_of, set};
+use std::alloc::Global;
+use yexplain::reads::{Made, is_complete, items_of, left_of, set};
 use ylalr::{ERROR, Item, token_count};
-use ysymbols::Sym;
+use ysymbols::{Sym, let_go};
 
 /// A search in tables.
 pub struct Search<'a> {
@@ -31,16 +31,7 @@ pub struct Search<'a> {
 impl Drop for Search<'_> {
     // A call in each owner, which keeps their proofs short.
     fn drop(self) {
-        let Search {
-            ways: _,
-            absent: _,
-            rows: _,
-            masks,
-            inputs: _,
-            alone: _,
-            detected: _,
-        } = self;
-        drop(masks);
+        let_go!(self: Search { ways, absent, rows, masks, inputs, alone, detected });
     }
 }
 
@@ -59,11 +50,7 @@ pub fn state_key(state: usize) -> Key {
 
 impl<'a> Search<'a> {
     /// A search in tables for inputs without the tokens that are marked, which is still to be run.
-    pub fn new(
-        alloc: Global,
-        ways: Ways<'a>,
-        absent: &'a [bool],
-    ) -> Result<Search<'a>, AllocError> {
+    pub fn new(alloc: Global, ways: Ways<'a>, absent: &'a [bool]) -> Made<Search<'a>> {
         let tokens = token_count(ways.grammar());
         let states = ways.automaton().states();
         let mut rows = Rows::new(alloc, tokens);
@@ -100,7 +87,7 @@ impl<'a> Search<'a> {
     }
 
     /// Makes the sets of the tokens of an input.
-    fn make_inputs(&mut self) -> Result<(), AllocError> {
+    fn make_inputs(&mut self) -> Made<()> {
         for token in 0..token_count(self.ways.grammar()) {
             let alone = self.rows.make_set()?;
             self.alone.push(alone)?;
@@ -114,7 +101,7 @@ impl<'a> Search<'a> {
     }
 
     /// Makes the set of the tokens at which a state reduces a rule.
-    fn make_mask(&mut self, state: usize, rule: usize) -> Result<usize, AllocError> {
+    fn make_mask(&mut self, state: usize, rule: usize) -> Made<usize> {
         let mask = self.rows.make_set()?;
         let tokens = token_count(self.ways.grammar());
         self.rows.spend(tokens);
@@ -128,7 +115,7 @@ impl<'a> Search<'a> {
     }
 
     /// Puts what an empty rule says of the goto of a state: the token ahead stays.
-    fn put_empty(&mut self, state: usize, item: Item, mask: usize) -> Result<(), AllocError> {
+    fn put_empty(&mut self, state: usize, item: Item, mask: usize) -> Made<()> {
         for token in 0..self.alone.len() {
             if self.rows.sets.has(mask, token) {
                 let alone = self.alone.get(token).copied().unwrap_or(mask);
@@ -140,7 +127,7 @@ impl<'a> Search<'a> {
     }
 
     /// Puts what an item of a state says, where it is complete.
-    fn put_item(&mut self, state: usize, item: Item) -> Result<(), AllocError> {
+    fn put_item(&mut self, state: usize, item: Item) -> Made<()> {
         let grammar = self.ways.grammar();
         if !is_complete(grammar, item) {
             return Ok(());
@@ -158,7 +145,7 @@ impl<'a> Search<'a> {
     }
 
     /// Puts what the items of a state say.
-    fn put_items(&mut self, state: usize) -> Result<(), AllocError> {
+    fn put_items(&mut self, state: usize) -> Made<()> {
         for item in items_of(self.ways.automaton(), state) {
             self.put_item(state, *item)?;
         }
@@ -166,7 +153,7 @@ impl<'a> Search<'a> {
     }
 
     /// Puts what is known from the start.
-    pub fn begin(&mut self) -> Result<(), AllocError> {
+    pub fn begin(&mut self) -> Made<()> {
         self.make_inputs()?;
         for state in 0..self.ways.automaton().states() {
             if self.rows.has_steps() {
@@ -178,25 +165,13 @@ impl<'a> Search<'a> {
     }
 
     /// Tokens can be ahead in a state after so many.
-    pub fn put_state(
-        &mut self,
-        state: usize,
-        cost: u64,
-        at: usize,
-        taken: Taken,
-    ) -> Result<(), AllocError> {
+    pub fn put_state(&mut self, state: usize, cost: u64, at: usize, taken: Taken) -> Made<()> {
         self.rows
             .put(state_key(state), cost, Source::all(at), taken)
     }
 
     /// Tokens are ahead in a row, where there is one, after so many.
-    pub fn give(
-        &mut self,
-        key: Option<Key>,
-        cost: u64,
-        source: Source,
-        taken: Taken,
-    ) -> Result<(), AllocError> {
+    pub fn give(&mut self, key: Option<Key>, cost: u64, source: Source, taken: Taken) -> Made<()> {
         match key {
             Some(key) => self.rows.put(key, cost, source, taken),
             None => Ok(()),

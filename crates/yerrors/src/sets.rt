@@ -1,7 +1,7 @@
 //! Sets of tokens, side by side in one list of words.
 
-use std::alloc::{AllocError, Global};
-use yexplain::reads::set;
+use std::alloc::Global;
+use yexplain::reads::{Made, set};
 use ysymbols::Sym;
 
 /// The tokens of one word.
@@ -95,7 +95,7 @@ impl Sets {
     }
 
     /// Makes an empty set.
-    pub fn make(&mut self) -> Result<usize, AllocError> {
+    pub fn make(&mut self) -> Made<usize> {
         let at = self.words.len();
         for _ in 0..self.width {
             self.words.push(0)?;
@@ -104,7 +104,7 @@ impl Sets {
     }
 
     /// Makes a set of what is taken of another.
-    pub fn copy(&mut self, source: Source) -> Result<usize, AllocError> {
+    pub fn copy(&mut self, source: Source) -> Made<usize> {
         let at = self.words.len();
         for index in 0..self.width {
             let word = self.taken(source, index);
@@ -114,7 +114,7 @@ impl Sets {
     }
 
     /// Makes a set of what is taken of another and isn't known; none for nothing.
-    pub fn make_of(&mut self, source: Source, known: Known) -> Result<Option<usize>, AllocError> {
+    pub fn make_of(&mut self, source: Source, known: Known) -> Made<Option<usize>> {
         let is_known = (0..self.width).all(|index| self.fresh(source, known, index) == 0);
         if is_known {
             return Ok(None);

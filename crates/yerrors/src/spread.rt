@@ -11,15 +11,14 @@ use crate::rows::{Key, Level, Part, Spot, Taken};
 use crate::search::{Search, state_key};
 use crate::sets::Source;
 use crate::ways::{moved_back, moved_on};
-use std::alloc::AllocError;
-use yexplain::reads::{action_of, is_complete};
+use yexplain::reads::{Made, action_of, is_complete};
 use ylalr::{Item, token_count};
 use ysymbols::Sym;
 use ytables::Action;
 
 impl Search<'_> {
     /// Finds all that there is, and says whether it was found within the steps.
-    pub fn run(&mut self) -> Result<bool, AllocError> {
+    pub fn run(&mut self) -> Made<bool> {
         self.begin()?;
         // ends: each row gets each token once
         for _ in 0..usize::MAX {
@@ -35,7 +34,7 @@ impl Search<'_> {
     }
 
     /// Goes on from the new level of a row.
-    fn leave(&mut self, row: usize, level: Level) -> Result<(), AllocError> {
+    fn leave(&mut self, row: usize, level: Level) -> Made<()> {
         let Some(Key { spot, first }) = self.rows.key(row) else {
             return Ok(());
         };
@@ -57,14 +56,14 @@ impl Search<'_> {
         (state, item): (usize, Item),
         first: Option<Sym>,
         level: Level,
-    ) -> Result<(), AllocError> {
+    ) -> Made<()> {
         let symbol = self.ways.symbol(state);
         let is_token = self.ways.grammar().is_token(symbol);
         for place in 0..self.ways.count_before(state) {
             let before = (self.ways.state_before(state, place), moved_back(item));
             match first {
-                _ if is_token => self.leave_token(row, before, (symbol, state), level)?,
-                Some(first) => self.leave_over(row, before, (symbol, first), level)?,
+                _ if is_token => self.leave_token((row, level), before, (symbol, state))?,
+                Some(first) => self.leave_over((row, level), before, (symbol, first))?,
                 None => {}
             }
         }
@@ -74,11 +73,10 @@ impl Search<'_> {
     /// Goes on to one before a token, which has to be shifted.
     fn leave_token(
         &mut self,
-        row: usize,
+        (row, level): (usize, Level),
         (before, item): (usize, Item),
         (token, state): (Sym, usize),
-        level: Level,
-    ) -> Result<(), AllocError> {
+    ) -> Made<()> {
         if !self.ways.shifts(before, token, state) {
             return Ok(());
         }
@@ -98,11 +96,10 @@ impl Search<'_> {
     /// Goes on to one before a nonterminal, which leaves the first token of the rest ahead.
     fn leave_over(
         &mut self,
-        row: usize,
+        (row, level): (usize, Level),
         (before, item): (usize, Item),
         (symbol, first): (Sym, Sym),
-        level: Level,
-    ) -> Result<(), AllocError> {
+    ) -> Made<()> {
         let number = self.ways.gotos.number(before, symbol);
         let Some(spot) = number.and_then(|number| self.rows.spot(Spot::Goto(number))) else {
             return Ok(());
@@ -138,19 +135,14 @@ impl Search<'_> {
 /// From rows of gotos.
 impl Search<'_> {
     /// Goes on from a goto to the items before its nonterminal, and to the state that it leads to.
-    fn leave_goto(
-        &mut self,
-        (row, number): (usize, usize),
-        first: Sym,
-        level: Level,
-    ) -> Result<(), AllocError> {
+    fn leave_goto(&mut self, (row, number): (usize, usize), first: Sym, level: Level) -> Made<()> {
         let Some((state, to)) = self.ways.gotos.ends(number) else {
             return Ok(());
         };
         for index in 0..self.ways.gotos.items(number).len() {
             if let Some(item) = self.ways.gotos.items(number).get(index).copied() {
                 let key = self.key_of(state, item, first);
-                self.leave_goto_in(row, key, (to, moved_on(item)), level)?;
+                self.leave_goto_in((row, level), key, (to, moved_on(item)))?;
             }
         }
         self.leave_goto_to(row, (state, to), first, level)
@@ -159,13 +151,12 @@ impl Search<'_> {
     /// Goes on to an item before the nonterminal, after which it is this one in the other state.
     fn leave_goto_in(
         &mut self,
-        row: usize,
+        (row, level): (usize, Level),
         key: Option<Key>,
         (to, rest): (usize, Item),
-        level: Level,
-    ) -> Result<(), AllocError> {
+    ) -> Made<()> {
         if is_complete(self.ways.grammar(), rest) {
-            return self.leave_goto_by(row, key, (to, rest.rule), level);
+            return self.leave_goto_by((row, level), key, (to, rest.rule));
         }
         let Some(spot) = self.rows.spot(Spot::Rest(to, rest)) else {
             return Ok(());
@@ -181,11 +172,10 @@ impl Search<'_> {
     /// Reduces the rule of an item whose last symbol the nonterminal is, in the state of the goto.
     fn leave_goto_by(
         &mut self,
-        row: usize,
+        (row, level): (usize, Level),
         key: Option<Key>,
         (to, rule): (usize, usize),
-        level: Level,
-    ) -> Result<(), AllocError> {
+    ) -> Made<()> {
         let Some(mask) = self.mask(to, rule) else {
             return Ok(());
         };
@@ -206,7 +196,7 @@ impl Search<'_> {
         key: Option<Key>,
         (row, level): (usize, Level),
         (other, ahead): (usize, Sym),
-    ) -> Result<(), AllocError> {
+    ) -> Made<()> {
         self.rows.spend(1);
         if !self.rows.sets.has(level.at, ahead) {
             return Ok(());
@@ -231,7 +221,7 @@ impl Search<'_> {
         (state, to): (usize, usize),
         first: Sym,
         level: Level,
-    ) -> Result<(), AllocError> {
+    ) -> Made<()> {
         let Some(way) = self.rows.find(state_key(state)) else {
             return Ok(());
         };
@@ -245,11 +235,7 @@ impl Search<'_> {
 /// From rows of states.
 impl Search<'_> {
     /// Goes on from a state: over the tokens ahead, and over its nonterminals.
-    fn leave_state(
-        &mut self,
-        (row, state): (usize, usize),
-        level: Level,
-    ) -> Result<(), AllocError> {
+    fn leave_state(&mut self, (row, state): (usize, usize), level: Level) -> Made<()> {
         let tokens = token_count(self.ways.grammar());
         self.rows.spend(tokens);
         for token in 0..tokens {
@@ -265,12 +251,7 @@ impl Search<'_> {
     }
 
     /// Goes on over a token, or notes that it is an error.
-    fn meet(
-        &mut self,
-        (row, state): (usize, usize),
-        token: Sym,
-        cost: u64,
-    ) -> Result<(), AllocError> {
+    fn meet(&mut self, (row, state): (usize, usize), token: Sym, cost: u64) -> Made<()> {
         let inputs = self.inputs;
         let taken = Taken {
             first: Part::Row(row, token),
@@ -287,11 +268,7 @@ impl Search<'_> {
     }
 
     /// Goes on over a nonterminal.
-    fn leave_state_by(
-        &mut self,
-        (row, level): (usize, Level),
-        number: usize,
-    ) -> Result<(), AllocError> {
+    fn leave_state_by(&mut self, (row, level): (usize, Level), number: usize) -> Made<()> {
         let spot = self.rows.spot(Spot::Goto(number));
         let (Some((_, to)), Some(spot)) = (self.ways.gotos.ends(number), spot) else {
             return Ok(());

@@ -2,9 +2,9 @@
 //! before, and at which tokens a rule is reduced.
 
 use indexmap::IndexSet;
-use std::alloc::{AllocError, Global};
+use std::alloc::Global;
 use ycounterexample::search::Finder;
-use yexplain::reads::{action_of, body_of, goto_of, items_of, next_of};
+use yexplain::reads::{Made, action_of, body_of, goto_of, items_of, next_of};
 use ylalr::{Automaton, ERROR, Item};
 use ysymbols::{Grammar, Sym};
 use ytables::{Action, Tables};
@@ -57,7 +57,7 @@ pub fn before_dot(grammar: &Grammar, item: Item) -> Option<Sym> {
 
 impl Gotos {
     /// The gotos of an automaton.
-    fn new(alloc: Global, automaton: &Automaton) -> Result<Gotos, AllocError> {
+    fn new(alloc: Global, automaton: &Automaton) -> Made<Gotos> {
         let mut gotos = Gotos {
             pairs: IndexSet::new(alloc),
             targets: Vec::new(alloc),
@@ -73,12 +73,7 @@ impl Gotos {
     }
 
     /// Notes the gotos of a state.
-    fn note_state(
-        &mut self,
-        alloc: Global,
-        automaton: &Automaton,
-        state: usize,
-    ) -> Result<(), AllocError> {
+    fn note_state(&mut self, alloc: Global, automaton: &Automaton, state: usize) -> Made<()> {
         for item in items_of(automaton, state) {
             self.note_item(alloc, automaton, state, *item)?;
         }
@@ -92,7 +87,7 @@ impl Gotos {
         automaton: &Automaton,
         state: usize,
         item: Item,
-    ) -> Result<(), AllocError> {
+    ) -> Made<()> {
         let grammar = automaton.grammar();
         let symbol = match next_of(grammar, item) {
             Some(symbol) if !grammar.is_token(symbol) => symbol,
@@ -144,7 +139,7 @@ impl Gotos {
 
 impl<'a> Ways<'a> {
     /// The ways of tables.
-    pub fn new(alloc: Global, tables: &'a Tables) -> Result<Ways<'a>, AllocError> {
+    pub fn new(alloc: Global, tables: &'a Tables) -> Made<Ways<'a>> {
         Ok(Ways {
             tables,
             finder: Finder::new(alloc, tables.automaton())?,

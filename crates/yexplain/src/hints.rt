@@ -1,7 +1,7 @@
 //! How to choose otherwise than a cell with a shift does. Each hint is tried on the cell first,
 //! with the precedences that it asks for.
 
-use crate::advice::Advice;
+use crate::advice::{Advice, Words};
 use crate::lines::is_inner;
 use crate::reads::level_of;
 use crate::rivals::{Kinds, Rivals};
@@ -10,7 +10,7 @@ use std::io::{self, Write};
 use ycells::Candidate;
 use ylalr::END;
 use ysymbols::{Associativity, Sym};
-use ytables::{Action, Standing};
+use ytables::Standing;
 
 impl Rivals<'_> {
     /// Writes how precedences of all rules choose, which is always so.
@@ -112,30 +112,17 @@ impl Rivals<'_> {
             ),
             Advice::General => self.put_general(out),
             Advice::Both { reduces, shifts } => self.put_both(out, rule, (reduces, shifts)),
-            Advice::Token {
-                other,
-                shifts,
-                reduces,
-            } => self.put_token_line(out, (rule, other), (shifts, reduces)),
+            Advice::Token(words) => self.put_token_line(out, rule, words),
             Advice::Rule(giver) => self.put_rule_line(out, rule, giver),
-            Advice::Lines {
-                giver,
-                shifts,
-                reduces,
-            } => self.put_lines(out, (rule, giver), (shifts, reduces)),
+            Advice::Lines(words) => self.put_lines(out, rule, words),
             Advice::Own => self.put_own(out, rule),
         }
     }
 
     /// Writes how a line for the token that gives the rule its precedence too chooses.
-    fn put_both<W: Write>(
-        &self,
-        out: &mut W,
-        rule: usize,
-        (reduces, shifts): (bool, bool),
-    ) -> io::Result<()> {
+    fn put_both<W: Write>(&self, out: &mut W, rule: usize, turns: (bool, bool)) -> io::Result<()> {
         let name = self.name();
-        match (reduces, shifts) {
+        match turns {
             (true, true) => writeln!(
                 out,
                 "  To choose, name {name} in a line: %left reduces, %right shifts."
@@ -149,14 +136,9 @@ impl Rivals<'_> {
     }
 
     /// Writes how a line for the token chooses, where the rule has one of another token.
-    fn put_token_line<W: Write>(
-        &self,
-        out: &mut W,
-        (rule, other): (usize, Sym),
-        (shifts, reduces): (Kinds, Kinds),
-    ) -> io::Result<()> {
-        let both = shifts.and(reduces);
-        let (name, other) = (self.name(), self.named(other));
+    fn put_token_line<W: Write>(&self, out: &mut W, rule: usize, words: Words) -> io::Result<()> {
+        let (shifts, reduces, both) = (words.shifts, words.reduces, words.both());
+        let (name, other) = (self.name(), self.named(words.giver));
         if both.any() {
             return writeln!(
                 out,
@@ -202,14 +184,9 @@ impl Rivals<'_> {
     }
 
     /// Writes how the lines of two tokens choose.
-    fn put_lines<W: Write>(
-        &self,
-        out: &mut W,
-        (rule, token): (usize, Sym),
-        (shifts, reduces): (Kinds, Kinds),
-    ) -> io::Result<()> {
-        let both = shifts.and(reduces);
-        let (name, token) = (self.name(), self.named(token));
+    fn put_lines<W: Write>(&self, out: &mut W, rule: usize, words: Words) -> io::Result<()> {
+        let (shifts, reduces, both) = (words.shifts, words.reduces, words.both());
+        let (name, token) = (self.name(), self.named(words.giver));
         if both.any() {
             writeln!(
                 out,

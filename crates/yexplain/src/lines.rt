@@ -6,7 +6,7 @@ use std::alloc::Global;
 use std::fmt;
 use ylexemes::part::Lexeme;
 use ysourcemap::{Mark, Role};
-use ysymbols::{Grammar, Sym};
+use ysymbols::{Grammar, Sym, let_go};
 
 /// A place of a file: its line, and its column where that is known or wanted, both counted from 1.
 /// Columns are bytes.
@@ -108,11 +108,7 @@ pub struct Lines {
 impl Drop for Lines {
     // A call in each owner, which keeps their proofs short.
     fn drop(self) {
-        let Lines {
-            rules: _,
-            mentions: _,
-            sites: _,
-        } = self;
+        let_go!(self: Lines { rules, mentions, sites });
     }
 }
 
@@ -186,6 +182,14 @@ fn names_symbol(role: Role) -> bool {
             | Role::Symbol(_)
             | Role::PrecName(_)
     )
+}
+
+/// The name that a lexeme is, where it is one.
+pub fn name_in(lexeme: Lexeme<'_>) -> Option<&[u8]> {
+    match lexeme {
+        Lexeme::Name(name) | Lexeme::CIdentifier(name) => Some(name),
+        _ => None,
+    }
 }
 
 /// The symbol that a lexeme names.

@@ -130,7 +130,7 @@ pub fn chain_at(
     reasons: &Reasons<'_>,
     place: Place,
     token: Sym,
-) -> Result<Option<Vec<Reason>>, AllocError> {
+) -> Made<Option<Vec<Reason>>> {
     let automaton = reasons.automaton();
     if place.state < automaton.states() && token < automaton.grammar().symbols() {
         reasons.chain(alloc, place.state, place.item, token)

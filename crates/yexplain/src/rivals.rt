@@ -4,12 +4,11 @@
 use crate::lines::Lines;
 use crate::question::Question;
 use crate::reads::{level_of, rule_of};
-use crate::supposed::{BOTTOM, Supposed, TOP, line, place_of};
+use crate::supposed::{BOTTOM, Contest, Supposed, TOP, line, place_of};
 use crate::text::Name;
 use std::fmt;
-use ycells::{Rival, settle};
 use ysymbols::{Associativity, Grammar, Precedence, Sym};
-use ytables::{Action, Standing};
+use ytables::Action;
 
 /// The words for lines of precedence with which a hint holds.
 #[derive(Clone, Copy, Drop, PartialEq, Eq)]
@@ -69,22 +68,19 @@ pub struct Rivals<'a> {
     asked: Question<'a>,
     /// The shift.
     pub shift: Action,
-    rules: [usize; 10],
-    count: usize,
+    contest: Contest,
 }
 
 impl<'a> Rivals<'a> {
     /// The cell that is asked for.
     pub fn new(asked: Question<'a>) -> Rivals<'a> {
-        let mut rules = [0usize; 10];
-        for (place, candidate) in rules.iter_mut().zip(asked.candidates()) {
-            *place = candidate.rule;
-        }
+        let shift = asked.shift().unwrap_or(Action::Error);
+        let mut contest = Contest::of(asked);
+        contest.shift = Some(shift);
         Rivals {
             asked,
-            shift: asked.shift().unwrap_or(Action::Error),
-            rules,
-            count: asked.candidates().count(),
+            shift,
+            contest,
         }
     }
 
@@ -113,9 +109,9 @@ impl<'a> Rivals<'a> {
         Name(self.grammar(), token)
     }
 
-    /// The rules of the cell.
+    /// The rules of the cell; of too many the first ones.
     pub fn rules(&self) -> &[usize] {
-        self.rules.get(..self.count).unwrap_or(&self.rules)
+        self.contest.first_rules()
     }
 
     /// The precedences as they are.
@@ -133,16 +129,7 @@ impl<'a> Rivals<'a> {
 
     /// What is done in the cell; `None` where it has too many rules to be tried.
     fn deed(&self, supposed: Supposed<'a>) -> Option<Action> {
-        let nothing = Rival {
-            rule: 0,
-            standing: Standing::Neither,
-        };
-        let mut rivals = [nothing; 10];
-        for (rival, rule) in rivals.iter_mut().zip(self.rules()) {
-            *rival = supposed.rival(*rule, self.token());
-        }
-        let rivals = rivals.get(..self.count)?;
-        Some(settle(Some(self.shift), rivals).action)
+        Some(self.contest.settled(supposed)?.action)
     }
 
     /// Whether this is done in the cell; never, where it has too many rules to be tried.

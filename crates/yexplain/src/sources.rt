@@ -1,9 +1,9 @@
 //! Where lookaheads come from: for each rule of a cell the chain of items that gives it the token.
 
 use crate::question::Question;
-use crate::reads::{body_of, chain_at};
+use crate::reads::{Made, body_of, chain_at};
 use crate::text::{ItemText, Numbered};
-use std::alloc::{AllocError, Global};
+use std::alloc::Global;
 use std::io::{self, Write};
 use ylalr::Item;
 use yreasons::{Cause, Place, Reason, Reasons};
@@ -39,11 +39,7 @@ impl Source {
 
 /// For each rule that could be reduced in a cell, up to so many, why the token is among its
 /// lookaheads.
-pub fn sources_of(
-    alloc: Global,
-    reasons: &Reasons<'_>,
-    asked: Question<'_>,
-) -> Result<Vec<Source>, AllocError> {
+pub fn sources_of(alloc: Global, reasons: &Reasons<'_>, asked: Question<'_>) -> Made<Vec<Source>> {
     let mut sources = Vec::new(alloc);
     for candidate in asked.candidates().take(MOST_RULES) {
         let rule = candidate.rule;

@@ -1,10 +1,11 @@
 //! Precedences as they could be, and how rules stand to tokens with them.
 
 use crate::lines::Lines;
+use crate::question::Question;
 use crate::reads::{level_of, rule_of};
-use ycells::Rival;
+use ycells::{Rival, settle};
 use ysymbols::{Associativity, Grammar, Precedence, Sym};
-use ytables::standing_between;
+use ytables::{Action, Cell, Standing, standing_between};
 
 /// The place of a line above all others, with room for one between.
 pub const TOP: usize = 1;
@@ -82,5 +83,56 @@ impl Supposed<'_> {
         let of_rule = own.or(self.given(rule));
         let standing = standing_between(of_token, of_rule);
         Rival { rule, standing }
+    }
+}
+
+/// A cell as precedences are tried on it.
+#[derive(Clone, Copy, Drop)]
+pub struct Contest {
+    /// The token.
+    pub token: Sym,
+    /// The shift, where it is a candidate.
+    pub shift: Option<Action>,
+    rules: [usize; 10],
+    count: usize,
+}
+
+impl Contest {
+    /// The cell that is asked for.
+    pub fn of(asked: Question<'_>) -> Contest {
+        let mut rules = [0usize; 10];
+        for (place, candidate) in rules.iter_mut().zip(asked.candidates()) {
+            *place = candidate.rule;
+        }
+        Contest {
+            token: asked.token,
+            shift: asked.shift(),
+            rules,
+            count: asked.candidates().count(),
+        }
+    }
+
+    /// Its rules; `None` where there are too many to be tried.
+    pub fn rules(&self) -> Option<&[usize]> {
+        self.rules.get(..self.count)
+    }
+
+    /// Its rules; of too many the first ones.
+    pub fn first_rules(&self) -> &[usize] {
+        self.rules().unwrap_or(&self.rules)
+    }
+
+    /// What settles it with these precedences; `None` where it has too many rules to be tried.
+    pub fn settled(&self, supposed: Supposed<'_>) -> Option<Cell> {
+        let rules = self.rules()?;
+        let nothing = Rival {
+            rule: 0,
+            standing: Standing::Neither,
+        };
+        let mut rivals = [nothing; 10];
+        for (rival, rule) in rivals.iter_mut().zip(rules) {
+            *rival = supposed.rival(*rule, self.token);
+        }
+        Some(settle(self.shift, rivals.get(..self.count)?))
     }
 }

@@ -7,25 +7,17 @@ use crate::shown::{Place, put_whole};
 use crate::words::{AT_END, grammar_code, words_of};
 use std::alloc::Global;
 use std::io::{self, Write};
+use yexplain::lines::name_in;
 use yexplain::reads::{Made, name_of};
 use yexplain::text::Bytes;
 use yforeign::directive::is_imported;
 use ygrammar::{Grammar, GrammarFault, PlacedFault};
 use ylalr::token_count;
-use ylexemes::part::Lexeme;
 use ysourcemap::{Mark, Role};
 use ysymbols::names::{SymbolTable, intern};
 
 /// The most names that are listed.
 const MOST_NAMED: usize = 20;
-
-/// The name of a lexeme, where it is one.
-fn name_in(lexeme: Lexeme<'_>) -> Option<&[u8]> {
-    match lexeme {
-        Lexeme::Name(name) | Lexeme::CIdentifier(name) => Some(name),
-        _ => None,
-    }
-}
 
 /// The nearest to the name at a place of those that are symbols of a file.
 fn nearest_symbol<'a>(alloc: Global, map: &[Mark<'a>], at: usize) -> Made<Option<&'a [u8]>> {

@@ -1,9 +1,10 @@
 //! The nearest of some names to another name, for a slip in spelling: of symbols, commands,
 //! options.
 
-use std::alloc::{AllocError, Global};
+use std::alloc::Global;
 use std::str;
 use strsim::osa_distance;
+use yexplain::reads::Made;
 
 /// The longest name that is compared with others.
 const LONGEST: usize = 64;
@@ -26,7 +27,7 @@ fn unquoted(name: &[u8]) -> &[u8] {
 }
 
 /// How many edits lead from one name to another; 0 where they differ only in case or quotes.
-fn edits_between(alloc: Global, wanted: &[u8], name: &[u8]) -> Result<usize, AllocError> {
+fn edits_between(alloc: Global, wanted: &[u8], name: &[u8]) -> Made<usize> {
     if unquoted(wanted).eq_ignore_ascii_case(unquoted(name)) {
         return Ok(0);
     }
@@ -49,7 +50,7 @@ impl<'a> Search<'a> {
     }
 
     /// Takes a name in.
-    pub fn offer(&mut self, alloc: Global, name: &'a [u8]) -> Result<(), AllocError> {
+    pub fn offer(&mut self, alloc: Global, name: &'a [u8]) -> Made<()> {
         if self.wanted.len() > LONGEST || name.len() > LONGEST {
             return Ok(());
         }

@@ -2,7 +2,7 @@
 
 use std::alloc::Global;
 use std::fs;
-use std::io::{self, Read, Write};
+use std::io::{self, ErrorKind, Read, Write};
 use std::rt::Files;
 
 /// The most bytes of a tokens file or a text, unless another limit is asked for.
@@ -69,5 +69,26 @@ impl Limited<'_> {
     pub fn put_long_input<F: Files, W: Write>(self, rt: &F, out: &mut W) -> io::Result<()> {
         self.put_long(rt, out)?;
         writeln!(out, "  --limit N takes inputs of up to N bytes")
+    }
+
+    /// All bytes of the file. Where it has too many, that is written, with how to raise the limit
+    /// where an option does; or that it can't be read; and the exit status is the answer.
+    pub fn bytes_or_status<F: Files + AllocGlobal, E: Write>(
+        self,
+        rt: &F,
+        is_raised: bool,
+        errors: &mut E,
+    ) -> io::Result<Result<Vec<u8>, u8>> {
+        match self.bytes(rt) {
+            Ok(Some(bytes)) => Ok(Ok(bytes)),
+            Ok(None) if is_raised => self.put_long_input(rt, errors).map(|()| Err(1)),
+            Ok(None) => self.put_long(rt, errors).map(|()| Err(1)),
+            Err(error) if error.kind() == ErrorKind::OutOfMemory => Err(error),
+            Err(_) => {
+                let path = self.path;
+                writeln!(errors, "ydebug: cannot read {path}")?;
+                Ok(Err(3))
+            }
+        }
     }
 }

@@ -99,18 +99,14 @@ pub fn write_new<F: Files + AllocGlobal>(rt: &F, path: &str, text: &[u8]) -> io:
     written
 }
 
-/// Writes a text to the file of a path, or to `out` where no path is given, and says so where the
-/// file can't be written. The exit status is the answer; only no memory stays an error.
-pub fn put_output<F: Files + AllocGlobal, W: Write, E: Write>(
+/// Writes a text to the file of a path, and says so where it can't be written. The exit status is
+/// the answer; only no memory stays an error.
+pub fn put_file<F: Files + AllocGlobal, E: Write>(
     rt: &F,
-    path: Option<&str>,
+    path: &str,
     text: &[u8],
-    out: &mut W,
     errors: &mut E,
 ) -> io::Result<u8> {
-    let Some(path) = path else {
-        return out.write_all(text).map(|()| 0);
-    };
     match write_over(rt, path, text) {
         Ok(()) => Ok(0),
         Err(error) if error.kind() == ErrorKind::OutOfMemory => Err(error),
@@ -118,5 +114,32 @@ pub fn put_output<F: Files + AllocGlobal, W: Write, E: Write>(
             writeln!(errors, "ydebug: cannot write {path}")?;
             Ok(3)
         }
+    }
+}
+
+/// Writes a text likewise where a path is given, and nothing where none is.
+pub fn put_asked<F: Files + AllocGlobal, E: Write>(
+    rt: &F,
+    path: Option<&str>,
+    text: &[u8],
+    errors: &mut E,
+) -> io::Result<u8> {
+    match path {
+        Some(path) => put_file(rt, path, text, errors),
+        None => Ok(0),
+    }
+}
+
+/// Writes a text likewise where a path is given, and to `out` where none is.
+pub fn put_output<F: Files + AllocGlobal, W: Write, E: Write>(
+    rt: &F,
+    path: Option<&str>,
+    text: &[u8],
+    out: &mut W,
+    errors: &mut E,
+) -> io::Result<u8> {
+    match path {
+        Some(path) => put_file(rt, path, text, errors),
+        None => out.write_all(text).map(|()| 0),
     }
 }

@@ -4,6 +4,7 @@ use crate::lexeme::{Kind, Lexeme, Span, Uncut};
 use crate::runs::newlines;
 use crate::signs::{Piece, piece_at};
 use std::alloc::Global;
+use ysymbols::let_go;
 
 /// The lexemes of a file up to its second mark, and its comments that begin with two slashes.
 pub struct Lexemes {
@@ -16,7 +17,7 @@ pub struct Lexemes {
 impl Drop for Lexemes {
     // A call in each owner, which keeps their proofs short.
     fn drop(self) {
-        let Lexemes { all: _, remarks: _ } = self;
+        let_go!(self: Lexemes { all, remarks });
     }
 }
 

@@ -6,6 +6,7 @@ use crate::lexeme::{Kind, Lexeme};
 use crate::numbers::number_of;
 use indexmap::IndexMap;
 use std::alloc::{AllocError, Global};
+use ysymbols::let_go;
 use ysymbols::names::{SymbolTable, intern, is_among};
 
 /// A string that stands for a token.
@@ -40,22 +41,7 @@ pub struct Survey {
 impl Drop for Survey {
     // A call in each owner, which keeps their proofs short.
     fn drop(self) {
-        let Survey {
-            names,
-            tokens,
-            lefts,
-            used,
-            ends,
-            aliases,
-            start: _,
-            first: _,
-        } = self;
-        drop(names);
-        drop(tokens);
-        drop(lefts);
-        drop(used);
-        drop(ends);
-        drop(aliases);
+        let_go!(self: Survey { names, tokens, lefts, used, ends, aliases, start, first });
     }
 }
 

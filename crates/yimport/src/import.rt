@@ -13,6 +13,7 @@ use yforeign::groups::{Group, Head, groups_of};
 use yforeign::lexeme::{Lexeme, Span};
 use yforeign::lexer::{Lexemes, lexemes_of};
 use yforeign::survey::Survey;
+use ysymbols::let_go;
 
 /// A file that `yacc` reads, and what was changed for it.
 pub struct Imported {
@@ -41,19 +42,10 @@ pub struct Imported {
 impl Drop for Imported {
     // A call in each owner, which keeps their proofs short.
     fn drop(self) {
-        let Imported {
-            text: _,
-            pieces: _,
-            notes: _,
-            texts: _,
-            levels: _,
-            shift_reduce: _,
-            reduce_reduce: _,
-            ended: _,
-            lexemes: _,
-            spelling,
-        } = self;
-        drop(spelling);
+        let_go!(self: Imported {
+            text, pieces, notes, texts, levels, shift_reduce, reduce_reduce, ended, lexemes,
+            spelling
+        });
     }
 }
 

@@ -7,7 +7,7 @@ use yforeign::lexeme::{Kind, Lexeme};
 use yforeign::survey::{Survey, inside, is_text, with_quotes};
 use ylexemes::literal::literal_at;
 use ysymbols::names::Printed;
-use ysymbols::{Grammar, Sym};
+use ysymbols::{Grammar, Sym, let_go};
 
 /// The end of every input.
 const END: Sym = 0;
@@ -32,9 +32,7 @@ pub struct Spelling {
 impl Drop for Spelling {
     // A call in each owner, which keeps their proofs short.
     fn drop(self) {
-        let Spelling { survey, made } = self;
-        drop(survey);
-        drop(made);
+        let_go!(self: Spelling { survey, made });
     }
 }
 

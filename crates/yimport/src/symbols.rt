@@ -9,6 +9,7 @@ use indexmap::IndexMap;
 use std::alloc::{AllocError, Global};
 use yforeign::lexeme::{Lexeme, Span};
 use yforeign::survey::{Survey, inside, is_text};
+use ysymbols::let_go;
 use ysymbols::names::is_among;
 
 /// A number of conflicts that a file expects, and what says so.
@@ -66,25 +67,10 @@ pub struct Work<'a> {
 impl Drop for Work<'_> {
     // A call in each owner, which keeps their proofs short.
     fn drop(self) {
-        let Work {
-            alloc: _,
-            source: _,
-            survey: _,
-            edits: _,
-            made,
-            last_made: _,
-            renamed,
-            levels: _,
-            shift_reduce: _,
-            reduce_reduce: _,
-            bodies: _,
-            ended: _,
-            left: _,
-            has_start: _,
-            changed: _,
-        } = self;
-        drop(made);
-        drop(renamed);
+        let_go!(self: Work {
+            alloc, source, survey, edits, made, last_made, renamed, levels, shift_reduce,
+            reduce_reduce, bodies, ended, left, has_start, changed
+        });
     }
 }
 

@@ -4,7 +4,7 @@
 use std::alloc::Global;
 use yexplain::reads::{Made, action_of, body_of, goto_of, grammar_of, left_of};
 use ylalr::{END, ERROR, token_count};
-use ysymbols::Sym;
+use ysymbols::{Sym, let_go};
 use ytables::{Action, Tables};
 
 /// The most reductions that a trial of one token makes.
@@ -26,7 +26,7 @@ pub struct Wanted {
 impl Drop for Wanted {
     // A call in each owner, which keeps their proofs short.
     fn drop(self) {
-        let Wanted { can: _, unknown: _ } = self;
+        let_go!(self: Wanted { can, unknown });
     }
 }
 

@@ -1,14 +1,14 @@
 //! Grammar files of yacc and of bison.
 
 use crate::spelled::Spelled;
-use std::alloc::{AllocError, Global};
+use std::alloc::Global;
 use std::io::{self, Write};
 use std::mem;
 use std::rt::Files;
 use ybison::import::{Foreign, open_foreign};
 use ybison::notes::Source;
 use ybison::opening::open_text;
-use yexplain::reads::{body_of, grammar_of, set};
+use yexplain::reads::{Made, body_of, grammar_of, set};
 use yfaults::opening::{Opened, grammar_bytes, put_unread};
 use ysymbols::Grammar;
 
@@ -56,7 +56,7 @@ pub struct GrammarText {
 }
 
 /// The text of an import with the grammar that it is, and what the file calls its tokens.
-fn text_of(alloc: Global, source: &[u8], foreign: Foreign) -> Result<GrammarText, AllocError> {
+fn text_of(alloc: Global, source: &[u8], foreign: Foreign) -> Made<GrammarText> {
     let Foreign {
         mut imported,
         opened,
@@ -116,7 +116,7 @@ pub fn open_file<F: Files + AllocGlobal, E: Write>(
 }
 
 /// Which symbols stand in the body of a rule.
-pub fn used_in(alloc: Global, grammar: &Grammar) -> Result<Vec<bool>, AllocError> {
+pub fn used_in(alloc: Global, grammar: &Grammar) -> Made<Vec<bool>> {
     let mut used = vec![in alloc; false; grammar.symbols()]?;
     for rule in 0..grammar.rules() {
         for symbol in body_of(grammar, rule) {

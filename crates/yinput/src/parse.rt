@@ -8,6 +8,7 @@ use yexplain::lines::Lines;
 use yfaults::opening::Opened;
 use yparse::machine::{AtStart, StepFault, StepKind};
 use yparse::{Session, Tokens};
+use ysymbols::let_go;
 use ytables::Tables;
 
 /// A session, the lines of its grammar's file, how many tokens its own file has, and that file,
@@ -22,12 +23,7 @@ pub struct Parse {
 impl Drop for Parse {
     // A call in each owner, which keeps their proofs short.
     fn drop(self) {
-        let Parse {
-            session: _,
-            lines: _,
-            tokens: _,
-            text: _,
-        } = self;
+        let_go!(self: Parse { session, lines, tokens, text });
     }
 }
 

@@ -2,10 +2,10 @@
 
 use crate::fault::{Fault, What};
 use crate::grammars::used_in;
-use std::alloc::{AllocError, Global};
+use std::alloc::Global;
 use std::io::{self, ErrorKind};
 use std::rt::Files;
-use yexplain::reads::grammar_of;
+use yexplain::reads::{Made, grammar_of};
 use yfiles::reading::{LONGEST_SPEC, Limited};
 use ylex::fault::SpecFault;
 use ylex::lexer::Lexer;
@@ -14,7 +14,7 @@ use ysymbols::{Grammar, Sym};
 use ytables::Tables;
 
 /// The first token of the grammar's rules that no line gives.
-fn ungiven(alloc: Global, grammar: &Grammar, lexer: &Lexer) -> Result<Option<Sym>, AllocError> {
+fn ungiven(alloc: Global, grammar: &Grammar, lexer: &Lexer) -> Made<Option<Sym>> {
     let used = used_in(alloc, grammar)?;
     let mut marks = used.iter().enumerate();
     let found = marks.find(|(token, used)| {

@@ -1,6 +1,7 @@
 //! The text that tokens were read from.
 
 use yfaults::shown::Place;
+use ysymbols::let_go;
 
 /// A text from which tokens were read.
 pub struct Text {
@@ -17,12 +18,7 @@ pub struct Text {
 impl Drop for Text {
     // A call in each owner, which keeps their proofs short.
     fn drop(self) {
-        let Text {
-            path: _,
-            bytes: _,
-            places: _,
-            end: _,
-        } = self;
+        let_go!(self: Text { path, bytes, places, end });
     }
 }
 

@@ -2,7 +2,7 @@
 //! that has one.
 
 use crate::messages::Messages;
-use crate::slots::{Slot, slots_of};
+use crate::slots::Slot;
 use std::alloc::Global;
 use std::io::{self, Write};
 use ydigest::digest_of;
@@ -37,12 +37,11 @@ fn put_state<W: Write>(
     messages: &Messages,
     state: usize,
 ) -> io::Result<()> {
-    let Some(message) = messages.of(state) else {
-        return Ok(());
-    };
-    writeln!(out, "state {state}")?;
-    for slot in &slots_of(alloc, message)? {
-        put_slot(out, *slot)?;
+    if let Some(slots) = messages.slots(alloc, state)? {
+        writeln!(out, "state {state}")?;
+        for slot in &slots {
+            put_slot(out, *slot)?;
+        }
     }
     Ok(())
 }

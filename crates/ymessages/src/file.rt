@@ -2,6 +2,7 @@
 
 use std::alloc::{AllocError, Global};
 use std::mem;
+use ysymbols::let_go;
 
 /// Bytes of a file, from one place to another.
 #[derive(Clone, Copy, Drop, PartialEq, Eq)]
@@ -30,10 +31,7 @@ pub struct Part {
 impl Drop for Part {
     // A call in each owner, which keeps their proofs short.
     fn drop(self) {
-        let Part {
-            lines: _,
-            message: _,
-        } = self;
+        let_go!(self: Part { lines, message });
     }
 }
 

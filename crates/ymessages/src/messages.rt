@@ -4,10 +4,11 @@ use crate::claims::Claims;
 use crate::file::{Cut, Part, is_comment, parts_of};
 use crate::inputs::Inputs;
 use crate::refusal::Source;
+use crate::slots::{Slot, slots_of};
 use std::alloc::Global;
 use std::io::{self, ErrorKind, Write};
 use std::rt::Files;
-use yexplain::reads::grammar_of;
+use yexplain::reads::{Made, grammar_of};
 use yfiles::reading::Limited;
 use yinput::language::Language;
 use ytables::Tables;
@@ -52,27 +53,6 @@ fn claims_of<E: Write>(
         Err(unread) => {
             source.put_unread(errors, alloc, grammar_of(inputs.tables), unread)?;
             Ok(Err(1))
-        }
-    }
-}
-
-/// The bytes of a file, or the exit status where it isn't read, which is then said.
-pub(crate) fn bytes_of<F: Files + AllocGlobal, E: Write>(
-    rt: &F,
-    file: Limited<'_>,
-    errors: &mut E,
-) -> io::Result<Result<Vec<u8>, u8>> {
-    match file.bytes(rt) {
-        Ok(Some(bytes)) => Ok(Ok(bytes)),
-        Ok(None) => {
-            file.put_long_input(rt, errors)?;
-            Ok(Err(1))
-        }
-        Err(error) if error.kind() == ErrorKind::OutOfMemory => Err(error),
-        Err(_) => {
-            let path = file.path;
-            writeln!(errors, "ydebug: cannot read {path}")?;
-            Ok(Err(3))
         }
     }
 }
@@ -174,7 +154,7 @@ impl Messages {
         file: Limited<'_>,
         errors: &mut E,
     ) -> io::Result<Result<Messages, u8>> {
-        let bytes = match bytes_of(rt, file, errors)? {
+        let bytes = match file.bytes_or_status(rt, true, errors)? {
             Ok(bytes) => bytes,
             Err(status) => return Ok(Err(status)),
         };
@@ -189,7 +169,7 @@ impl Messages {
         (file, columns): (Limited<'_>, bool),
         errors: &mut E,
     ) -> io::Result<Result<Messages, u8>> {
-        let bytes = match bytes_of(rt, file, errors)? {
+        let bytes = match file.bytes_or_status(rt, true, errors)? {
             Ok(bytes) => bytes,
             Err(status) => return Ok(Err(status)),
         };
@@ -207,5 +187,13 @@ impl Messages {
         let claim = self.claims.all.get(self.claims.owner(state)?)?;
         let span = self.parts.get(claim.part)?.message?;
         Some(span.of(&self.bytes))
+    }
+
+    /// The pieces of the message of a state, where it has one.
+    pub fn slots(&self, alloc: Global, state: usize) -> Made<Option<Vec<Slot<'_>>>> {
+        match self.of(state) {
+            Some(message) => slots_of(alloc, message).map(Some),
+            None => Ok(None),
+        }
     }
 }

@@ -2,7 +2,7 @@
 
 use crate::data::data_of;
 use crate::inputs::Inputs;
-use crate::messages::{Messages, bytes_of};
+use crate::messages::Messages;
 use crate::update::{New, Update, confirm_all};
 use std::alloc::Global;
 use std::fs;
@@ -16,7 +16,7 @@ use yexplain::text::{Name, Names};
 use yfaults::opening::Opened;
 use yfiles::reading::Limited;
 use yfiles::same::refused_output;
-use yfiles::writing::put_output;
+use yfiles::writing::{put_asked, put_file};
 use yinput::language::{Language, LanguageFiles};
 use yinput::spelled::Spelled;
 use ylalr::END;
@@ -107,10 +107,33 @@ impl Found {
         })
     }
 
+    /// What a file of a path is written with, by what is confirmed of its inputs.
+    fn update<'a>(
+        &'a self,
+        alloc: Global,
+        path: &'a str,
+        confirmed: &'a [Option<Confirmed>],
+    ) -> Update<'a> {
+        Update {
+            alloc,
+            path,
+            tables: self.session.tables(),
+            errors: &self.errors,
+            told: self.told.as_ref(),
+            messages: &self.messages,
+            confirmed,
+            writer: self.writer.as_ref(),
+        }
+    }
+
     /// Writes the file anew, and says which states are new.
     fn put<W: Write>(&mut self, alloc: Global, path: &str, out: &mut W) -> io::Result<New> {
         let confirmed = confirm_all(alloc, &mut self.session, &self.messages)?;
-        put_file(alloc, &*self, path, &confirmed, out)
+        let update = self.update(alloc, path, &confirmed);
+        let mut page = Page::new(&mut *out, false);
+        let new = update.put(&mut page);
+        page.checked()?;
+        new
     }
 
     /// Writes the states that have no message, each with an input for it, and says how many they
@@ -121,16 +144,7 @@ impl Found {
         path: &str,
         errors: &mut E,
     ) -> io::Result<usize> {
-        let update = Update {
-            alloc,
-            path,
-            tables: self.session.tables(),
-            errors: &self.errors,
-            told: self.told.as_ref(),
-            messages: &self.messages,
-            confirmed: &[],
-            writer: self.writer.as_ref(),
-        };
+        let update = self.update(alloc, path, &[]);
         let mut count: usize = 0;
         for state in 0..self.errors.outcomes.len() {
             if let Some(confirmed) = update.new_list(state) {
@@ -140,32 +154,6 @@ impl Found {
         }
         Ok(count)
     }
-}
-
-/// Writes a file anew, with what is confirmed of its inputs, and says which states are new.
-fn put_file<'a, W: Write>(
-    alloc: Global,
-    found: &'a Found,
-    path: &'a str,
-    confirmed: &'a [Option<Confirmed>],
-    out: &mut W,
-) -> io::Result<New> {
-    let told = found.told.as_ref();
-    let writer = found.writer.as_ref();
-    let update = Update {
-        alloc,
-        path,
-        tables: found.session.tables(),
-        errors: &found.errors,
-        told,
-        messages: &found.messages,
-        confirmed,
-        writer,
-    };
-    let mut page = Page::new(&mut *out, false);
-    let new = update.put(&mut page);
-    page.checked()?;
-    new
 }
 
 /// Writes that a state has no message, with an input for it, or that no text is found for one.
@@ -201,24 +189,37 @@ fn put_inputs<W: Write>(out: &mut W, path: &str, messages: &Messages) -> io::Res
     put_count(out, messages.claims.all.len(), "input", "inputs")
 }
 
-/// Lists the errors of a language, as a file of messages that has no message yet.
-fn list<W: Write, E: Write>(
-    alloc: Global,
+/// The messages that are asked for: those of the file; of one that is to be written anew, also where
+/// inputs are wrong or there is no such file; none where errors are to be listed. Where they can't
+/// be read, that is written, and the exit status is the answer.
+fn read_messages<F: Files + AllocGlobal, E: Write>(
+    rt: &F,
     asked: Asked<'_>,
-    language: Language,
-    out: &mut W,
+    language: &Language,
     errors: &mut E,
+) -> io::Result<Result<Messages, u8>> {
+    let inputs = Inputs::of_language(language);
+    let (path, bytes) = match asked.messages {
+        None => (asked.files.grammar.path, Vec::new(rt.alloc())),
+        Some(file) if !asked.update => return Messages::open(rt, inputs, file, errors),
+        Some(file) if fs::metadata(rt, file.path).is_err() => (file.path, Vec::new(rt.alloc())),
+        Some(file) => match file.bytes_or_status(rt, true, errors)? {
+            Ok(bytes) => (file.path, bytes),
+            Err(status) => return Ok(Err(status)),
+        },
+    };
+    Messages::read(rt.alloc(), inputs, (path, false), bytes, errors)
+}
+
+/// Lists the errors of a language, as a file of messages that has no message yet.
+fn list<W: Write>(
+    alloc: Global,
+    grammar: &str,
+    (language, messages): (Language, Messages),
+    out: &mut W,
 ) -> io::Result<u8> {
-    let path = asked.files.grammar.path;
-    let inputs = Inputs::of_language(&language);
-    let (named, nothing) = ((path, false), Vec::new(alloc));
-    match Messages::read(alloc, inputs, named, nothing, errors)? {
-        Ok(messages) => {
-            let mut found = Found::new(alloc, language, messages)?;
-            found.put(alloc, path, out).map(|_| 0)
-        }
-        Err(status) => Ok(status),
-    }
+    let mut found = Found::new(alloc, language, messages)?;
+    found.put(alloc, grammar, out).map(|_| 0)
 }
 
 /// Writes what an update of a file comes to: its inputs, those that are wrong, and the states that
@@ -248,47 +249,22 @@ fn put_renewed<W: Write>(
 /// Writes a file anew that is read, and gives the exit status.
 fn rewrite<F: Files + AllocGlobal, W: Write, E: Write>(
     rt: &F,
-    asked: Asked<'_>,
-    file: Limited<'_>,
+    (grammar, path): (&str, &str),
     (language, messages): (Language, Messages),
     out: &mut W,
     errors: &mut E,
 ) -> io::Result<u8> {
     let alloc = rt.alloc();
-    let wrong = messages.put_wrong(&language.opened.tables, file.path, errors)?;
+    let wrong = messages.put_wrong(&language.opened.tables, path, errors)?;
     let mut found = Found::new(alloc, language, messages)?;
     let mut text = Vec::new(alloc);
-    let new = found.put(alloc, asked.files.grammar.path, &mut text)?;
-    let status = put_output(rt, Some(file.path), &text, out, errors)?;
+    let new = found.put(alloc, grammar, &mut text)?;
+    let status = put_file(rt, path, &text, errors)?;
     if status > 0 {
         return Ok(status);
     }
-    put_renewed(out, file.path, &found.messages, wrong, new)?;
+    put_renewed(out, path, &found.messages, wrong, new)?;
     Ok(if wrong > 0 { 1 } else { 0 })
-}
-
-/// Writes a file anew, or a new one, where there is none, and gives the exit status.
-fn renew<F: Files + AllocGlobal, W: Write, E: Write>(
-    rt: &F,
-    asked: Asked<'_>,
-    file: Limited<'_>,
-    language: Language,
-    out: &mut W,
-    errors: &mut E,
-) -> io::Result<u8> {
-    let bytes = match fs::metadata(rt, file.path) {
-        Ok(_) => match bytes_of(rt, file, errors)? {
-            Ok(bytes) => bytes,
-            Err(status) => return Ok(status),
-        },
-        Err(_) => Vec::new(rt.alloc()),
-    };
-    let inputs = Inputs::of_language(&language);
-    let named = (file.path, false);
-    match Messages::read(rt.alloc(), inputs, named, bytes, errors)? {
-        Ok(messages) => rewrite(rt, asked, file, (language, messages), out, errors),
-        Err(status) => Ok(status),
-    }
 }
 
 /// Writes which states have no message, where each is to have one, and gives the exit status.
@@ -325,34 +301,16 @@ fn data_asked(
     }
 }
 
-/// Writes a text to the file that is asked for, where one is, and gives the exit status.
-fn put_data<F: Files + AllocGlobal, W: Write, E: Write>(
-    rt: &F,
-    asked: Asked<'_>,
-    text: &[u8],
-    out: &mut W,
-    errors: &mut E,
-) -> io::Result<u8> {
-    match asked.table {
-        Some(_) => put_output(rt, asked.table, text, out, errors),
-        None => Ok(0),
-    }
-}
-
-/// Says what is wrong with a file, or that nothing is, and gives the exit status. Where nothing
-/// is, the messages are written as data first, if that is asked for.
+/// Says that nothing is wrong with a file, or which states have no message where each is to have
+/// one, and gives the exit status. The messages are written as data first, if that is asked for.
 fn check<F: Files + AllocGlobal, W: Write, E: Write>(
     rt: &F,
     asked: Asked<'_>,
     file: Limited<'_>,
-    language: Language,
+    (language, messages): (Language, Messages),
     out: &mut W,
     errors: &mut E,
 ) -> io::Result<u8> {
-    let messages = match Messages::open(rt, Inputs::of_language(&language), file, errors)? {
-        Ok(messages) => messages,
-        Err(status) => return Ok(status),
-    };
     let mut line = Vec::new(rt.alloc());
     put_inputs(&mut line, file.path, &messages)?;
     let told = (&language.opened.tables, &language.spelled);
@@ -363,7 +321,7 @@ fn check<F: Files + AllocGlobal, W: Write, E: Write>(
             return Ok(status);
         }
     }
-    match put_data(rt, asked, &data, out, errors)? {
+    match put_asked(rt, asked.table, &data, errors)? {
         0 if asked.complete => put_checked(out, &line, ", complete"),
         0 => put_checked(out, &line, ""),
         status => Ok(status),
@@ -394,6 +352,27 @@ fn refused<F: Files + AllocGlobal, E: Write>(
     }
 }
 
+/// Writes what is asked for by a language that is open, and gives the exit status.
+fn run_open<F: Files + AllocGlobal, W: Write, E: Write>(
+    rt: &F,
+    asked: Asked<'_>,
+    language: Language,
+    out: &mut W,
+    errors: &mut E,
+) -> io::Result<u8> {
+    let messages = match read_messages(rt, asked, &language, errors)? {
+        Ok(messages) => messages,
+        Err(status) => return Ok(status),
+    };
+    let grammar = asked.files.grammar.path;
+    let read = (language, messages);
+    match asked.messages {
+        None => list(rt.alloc(), grammar, read, out),
+        Some(file) if asked.update => rewrite(rt, (grammar, file.path), read, out, errors),
+        Some(file) => check(rt, asked, file, read, out, errors),
+    }
+}
+
 /// Writes what is asked for, and gives the exit status: 0; 1 where the grammar, the SPEC or the
 /// file of messages is refused, one of its inputs is wrong, or a state has no message and is to
 /// have one; 2 where a file that is read would be written over; 3 where a file can't be read or
@@ -404,16 +383,11 @@ pub fn run_errors<F: Files + AllocGlobal, W: Write, E: Write>(
     out: &mut W,
     errors: &mut E,
 ) -> io::Result<u8> {
-    if let Some(status) = refused(rt, asked, errors)? {
-        return Ok(status);
-    }
-    let language = match Language::open(rt, asked.files, errors)? {
-        Ok(language) => language,
-        Err(status) => return Ok(status),
-    };
-    match asked.messages {
-        None => list(rt.alloc(), asked, language, out, errors),
-        Some(file) if asked.update => renew(rt, asked, file, language, out, errors),
-        Some(file) => check(rt, asked, file, language, out, errors),
+    match refused(rt, asked, errors)? {
+        Some(status) => Ok(status),
+        None => match Language::open(rt, asked.files, errors)? {
+            Ok(language) => run_open(rt, asked, language, out, errors),
+            Err(status) => Ok(status),
+        },
     }
 }

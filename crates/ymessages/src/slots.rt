@@ -1,6 +1,7 @@
 //! What a message is made of: bytes as they stand, and what stands for something else.
 
-use std::alloc::{AllocError, Global};
+use std::alloc::Global;
+use yexplain::reads::Made;
 
 /// A piece of a message.
 #[derive(Clone, Copy, Drop)]
@@ -28,7 +29,7 @@ fn number_in(digits: &[u8]) -> usize {
 }
 
 /// Adds bytes, where there are some.
-fn push_text<'a>(slots: &mut Vec<Slot<'a>>, text: &'a [u8]) -> Result<(), AllocError> {
+fn push_text<'a>(slots: &mut Vec<Slot<'a>>, text: &'a [u8]) -> Made<()> {
     if !text.is_empty() {
         slots.push(Slot::Text(text))?;
     }
@@ -36,7 +37,7 @@ fn push_text<'a>(slots: &mut Vec<Slot<'a>>, text: &'a [u8]) -> Result<(), AllocE
 }
 
 /// Adds what follows a dollar sign.
-fn push_piece<'a>(slots: &mut Vec<Slot<'a>>, piece: &'a [u8]) -> Result<(), AllocError> {
+fn push_piece<'a>(slots: &mut Vec<Slot<'a>>, piece: &'a [u8]) -> Made<()> {
     if let Some(rest) = piece.strip_prefix(b"expected") {
         slots.push(Slot::Expected)?;
         return push_text(slots, rest);
@@ -54,7 +55,7 @@ fn push_piece<'a>(slots: &mut Vec<Slot<'a>>, piece: &'a [u8]) -> Result<(), Allo
 
 /// The pieces of a message, in their order. Two dollar signs are one, and so is one before anything
 /// else.
-pub fn slots_of<'a>(alloc: Global, message: &'a [u8]) -> Result<Vec<Slot<'a>>, AllocError> {
+pub fn slots_of<'a>(alloc: Global, message: &'a [u8]) -> Made<Vec<Slot<'a>>> {
     let mut slots = Vec::new(alloc);
     let mut is_plain = true;
     for piece in message.split(|b| *b == b'$') {

@@ -15,7 +15,6 @@ use yerrors::errors::Errors;
 use yexplain::reads::grammar_of;
 use ylex::writer::Writer;
 use yparse::Session;
-use ysymbols::Sym;
 use ytables::Tables;
 use yview::page::Page;
 
@@ -52,13 +51,6 @@ pub struct New {
     pub untold: usize,
 }
 
-/// A copy of some tokens.
-fn copied(alloc: Global, tokens: &[Sym]) -> Result<Vec<Sym>, AllocError> {
-    let mut copy = Vec::with_capacity(alloc, tokens.len())?;
-    copy.extend_from_slice(tokens)?;
-    Ok(copy)
-}
-
 /// What a session has of an input; nothing where its last token is no error.
 fn confirmed_of(
     alloc: Global,
@@ -69,7 +61,7 @@ fn confirmed_of(
     match claim.state() {
         Some(state) => {
             let (tokens, last) = claim.input.list();
-            let list = (copied(alloc, tokens)?, last);
+            let list = (Vec::from_slice(alloc, tokens)?, last);
             confirm(alloc, session, list, state, left)
         }
         None => Ok(None),

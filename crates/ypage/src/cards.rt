@@ -11,7 +11,7 @@ use yexplain::lines::Lines;
 use yfaults::opening::Opened;
 use yparse::Session;
 use yreports::list_text::{ListText, put_unfound};
-use ysymbols::Sym;
+use ysymbols::{Sym, let_go};
 use ytables::Tables;
 use yview::page::Page;
 
@@ -41,17 +41,7 @@ pub struct Card {
 impl Drop for Card {
     // A call in each owner, which keeps their proofs short.
     fn drop(self) {
-        let Card {
-            state: _,
-            token: _,
-            states: _,
-            shift: _,
-            rules: _,
-            more: _,
-            why: _,
-            ways: _,
-            missing: _,
-        } = self;
+        let_go!(self: Card { state, token, states, shift, rules, more, why, ways, missing });
     }
 }
 

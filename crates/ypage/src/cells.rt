@@ -4,7 +4,7 @@ use serde::Serialize;
 use std::alloc::{AllocError, Global};
 use std::{io, str};
 use yexplain::lines::Lines;
-use yexplain::reads::{conflict_of, rivals_in};
+use yexplain::reads::{Made, conflict_of, rivals_in};
 use yexplain::why::Question;
 use ysymbols::Sym;
 use ytables::Tables;
@@ -19,7 +19,7 @@ pub struct Cell {
 }
 
 /// The text of these bytes, which are ASCII.
-pub fn text_of(alloc: Global, bytes: &[u8]) -> Result<String, AllocError> {
+pub fn text_of(alloc: Global, bytes: &[u8]) -> Made<String> {
     String::from_str(alloc, str::from_utf8(bytes).unwrap_or(""))
 }
 

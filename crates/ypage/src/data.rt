@@ -7,10 +7,11 @@ use crate::record::Record;
 use crate::table::Table;
 use indexmap::IndexSet;
 use serde::Serialize;
-use std::alloc::{AllocError, Global};
+use std::alloc::Global;
 use std::io::{self, ErrorKind};
+use yexplain::reads::Made;
 use yfaults::opening::Opened;
-use ysymbols::Sym;
+use ysymbols::{Sym, let_go};
 
 /// What the script is given.
 #[derive(Serialize)]
@@ -28,14 +29,7 @@ struct Data<'a> {
 impl Drop for Data<'_> {
     // A call in each owner, which keeps their proofs short.
     fn drop(self) {
-        let Data {
-            files: _,
-            table: _,
-            input: _,
-            record: _,
-            cells: _,
-            conflicts: _,
-        } = self;
+        let_go!(self: Data { files, table, input, record, cells, conflicts });
     }
 }
 
@@ -58,7 +52,7 @@ pub struct Shown<'a> {
 }
 
 /// Adds the states of the first position.
-fn add_stack(states: &mut IndexSet<usize>, stack: &[(Sym, usize)]) -> Result<(), AllocError> {
+fn add_stack(states: &mut IndexSet<usize>, stack: &[(Sym, usize)]) -> Made<()> {
     for (_, state) in stack {
         states.insert(*state)?;
     }
@@ -66,7 +60,7 @@ fn add_stack(states: &mut IndexSet<usize>, stack: &[(Sym, usize)]) -> Result<(),
 }
 
 /// Adds the states that the steps come to.
-fn add_reached(states: &mut IndexSet<usize>, reached: &[usize]) -> Result<(), AllocError> {
+fn add_reached(states: &mut IndexSet<usize>, reached: &[usize]) -> Made<()> {
     for state in reached {
         states.insert(*state)?;
     }
@@ -74,7 +68,7 @@ fn add_reached(states: &mut IndexSet<usize>, reached: &[usize]) -> Result<(), Al
 }
 
 /// Adds the states of conflicts.
-fn add_kinds(states: &mut IndexSet<usize>, cards: &Cards) -> Result<(), AllocError> {
+fn add_kinds(states: &mut IndexSet<usize>, cards: &Cards) -> Made<()> {
     for card in &cards.kinds {
         states.insert(card.state)?;
     }
@@ -83,7 +77,7 @@ fn add_kinds(states: &mut IndexSet<usize>, cards: &Cards) -> Result<(), AllocErr
 
 impl<'a> Shown<'a> {
     /// Adds the states that the page shows.
-    fn add_states(self, states: &mut IndexSet<usize>) -> Result<(), AllocError> {
+    fn add_states(self, states: &mut IndexSet<usize>) -> Made<()> {
         states.insert(0)?;
         add_stack(states, &self.record.start.stack)?;
         add_reached(states, &self.record.states)?;
@@ -94,18 +88,14 @@ impl<'a> Shown<'a> {
     }
 
     /// The grammar, and the states that the page shows; those are gathered in a set.
-    fn table_by(
-        self,
-        alloc: Global,
-        states: &mut IndexSet<usize>,
-    ) -> Result<Table<'a>, AllocError> {
+    fn table_by(self, alloc: Global, states: &mut IndexSet<usize>) -> Made<Table<'a>> {
         self.add_states(states)?;
         let Opened { tables, lines } = self.opened;
         Table::new(alloc, tables, lines, states.as_slice())
     }
 
     /// The grammar, and the states that the page shows.
-    fn table(self, alloc: Global) -> Result<Table<'a>, AllocError> {
+    fn table(self, alloc: Global) -> Made<Table<'a>> {
         let mut states = IndexSet::new(alloc);
         let table = self.table_by(alloc, &mut states);
         drop(states);

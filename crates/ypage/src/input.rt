@@ -2,8 +2,9 @@
 
 use crate::record::Record;
 use serde::Serialize;
-use std::alloc::{AllocError, Global};
+use std::alloc::Global;
 use yexplain::lines::Spots;
+use yexplain::reads::Made;
 use yinput::Parse;
 use yparse::Session;
 use yparse::machine::StepKind;
@@ -45,7 +46,7 @@ fn taken_to(session: &Session, position: usize) -> usize {
 }
 
 /// The tokens that the steps take, without so many of the first.
-fn push_taken(tokens: &mut Vec<Sym>, session: &Session, skipped: usize) -> Result<(), AllocError> {
+fn push_taken(tokens: &mut Vec<Sym>, session: &Session, skipped: usize) -> Made<()> {
     let taken = (0..session.position()).filter_map(|index| taken_at(session, index));
     for token in taken.skip(skipped) {
         tokens.push(token)?;
@@ -59,7 +60,7 @@ fn places_of(
     parse: &Parse,
     skipped: usize,
     count: usize,
-) -> Result<Vec<(usize, usize)>, AllocError> {
+) -> Made<Vec<(usize, usize)>> {
     let mut places = Vec::new(alloc);
     let Some(text) = parse.text() else {
         return Ok(places);
@@ -74,7 +75,7 @@ fn places_of(
 
 impl Input {
     /// The tokens around the steps of a record, at the end of which the parse stands.
-    pub fn new(alloc: Global, parse: &Parse, record: &Record) -> Result<Input, AllocError> {
+    pub fn new(alloc: Global, parse: &Parse, record: &Record) -> Made<Input> {
         let session = parse.session();
         let taken = taken_to(session, record.start.position);
         let skipped = taken.saturating_sub(BEFORE);

@@ -7,9 +7,10 @@ use crate::input::Input;
 use crate::script::SCRIPT;
 use crate::style::STYLE;
 use crate::walk::{MOST_STEPS, Part, Trail, Walked, walk_part};
-use std::alloc::{AllocError, Global};
+use std::alloc::Global;
 use std::io::{self, Write};
 use std::rt::Files;
+use yexplain::reads::Made;
 use yfaults::opening::Opened;
 use yfiles::same::refused_output;
 use yfiles::writing::put_output;
@@ -29,7 +30,7 @@ pub struct Asked<'a> {
 }
 
 /// Adds JSON in which no `<` stands: where one stood in a text, its number does.
-fn push_json(page: &mut Vec<u8>, json: &[u8]) -> Result<(), AllocError> {
+fn push_json(page: &mut Vec<u8>, json: &[u8]) -> Made<()> {
     let mut pieces = json.split(|byte| *byte == b'<');
     page.extend_from_slice(pieces.next().unwrap_or(&[]))?;
     for piece in pieces {
@@ -40,7 +41,7 @@ fn push_json(page: &mut Vec<u8>, json: &[u8]) -> Result<(), AllocError> {
 }
 
 /// Writes a whole page around JSON.
-fn push_page(page: &mut Vec<u8>, json: &[u8]) -> Result<(), AllocError> {
+fn push_page(page: &mut Vec<u8>, json: &[u8]) -> Made<()> {
     page.extend_from_slice(FRONT.as_bytes())?;
     page.extend_from_slice(STYLE.as_bytes())?;
     page.extend_from_slice(SCRIPT.as_bytes())?;

@@ -1,10 +1,11 @@
 //! The steps of a parse as the page has them. Its script makes stacks and trees of them again.
 
 use serde::Serialize;
-use std::alloc::{AllocError, Global};
+use std::alloc::Global;
+use yexplain::reads::Made;
 use yparse::Session;
 use yparse::machine::{Mode, StepKind};
-use ysymbols::Sym;
+use ysymbols::{Sym, let_go};
 use yview::reading::{stack_state, stack_symbol};
 
 /// Where a parse stands at the first position of the page.
@@ -40,13 +41,7 @@ pub struct Record {
 impl Drop for Record {
     // A call in each owner, which keeps their proofs short.
     fn drop(self) {
-        let Record {
-            start: _,
-            kinds: _,
-            rules: _,
-            states: _,
-            cells: _,
-        } = self;
+        let_go!(self: Record { start, kinds, rules, states, cells });
     }
 }
 
@@ -77,7 +72,7 @@ fn mode_word(mode: Mode) -> &'static str {
 
 impl Start {
     /// Where a session stands.
-    pub fn of(alloc: Global, session: &Session) -> Result<Start, AllocError> {
+    pub fn of(alloc: Global, session: &Session) -> Made<Start> {
         Ok(Start {
             position: session.position(),
             mode: mode_word(session.view().mode()),
@@ -103,7 +98,7 @@ impl Record {
     }
 
     /// Notes a step, and the state after it.
-    pub fn note(&mut self, kind: StepKind, state: usize) -> Result<(), AllocError> {
+    pub fn note(&mut self, kind: StepKind, state: usize) -> Made<()> {
         self.kinds.push(letter_of(kind))?;
         if let StepKind::Reduce(rule) = kind {
             self.rules.push(rule)?;

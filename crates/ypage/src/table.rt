@@ -5,7 +5,7 @@ use std::alloc::Global;
 use yexplain::lines::Lines;
 use yexplain::reads::{Made, body_of, grammar_of, items_of, left_of};
 use ylalr::{Automaton, END, token_count};
-use ysymbols::Sym;
+use ysymbols::{Sym, let_go};
 use ytables::Tables;
 use yview::reading::name_of;
 
@@ -30,13 +30,7 @@ pub struct Table<'a> {
 impl Drop for Table<'_> {
     // A call in each owner, which keeps their proofs short.
     fn drop(self) {
-        let Table {
-            names: _,
-            tokens: _,
-            rules: _,
-            lines: _,
-            states: _,
-        } = self;
+        let_go!(self: Table { names, tokens, rules, lines, states });
     }
 }
 

@@ -2,11 +2,12 @@
 
 use crate::record::{Record, Start};
 use indexmap::IndexSet;
-use std::alloc::{AllocError, Global};
+use std::alloc::Global;
 use std::io::{self, ErrorKind};
+use yexplain::reads::Made;
 use yinput::Parse;
 use yparse::machine::{StepFault, StepKind};
-use ysymbols::Sym;
+use ysymbols::{Sym, let_go};
 use yview::reading::{is_running, token_ahead};
 
 /// The most steps that a page shows.
@@ -32,8 +33,7 @@ pub struct Trail {
 impl Drop for Trail {
     // A call in each owner, which keeps their proofs short.
     fn drop(self) {
-        let Trail { record: _, cells } = self;
-        drop(cells);
+        let_go!(self: Trail { record, cells });
     }
 }
 
@@ -76,7 +76,7 @@ fn skip(parse: &mut Parse, position: usize) -> io::Result<()> {
 
 impl Walk<'_> {
     /// Notes the cell that says what is done next.
-    fn note_cell(&mut self) -> Result<(), AllocError> {
+    fn note_cell(&mut self) -> Made<()> {
         let session = self.parse.session();
         let mut number = None;
         if is_running(session) {

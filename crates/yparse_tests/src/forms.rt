@@ -7,6 +7,7 @@ use testkit::devices::{Refusal, Sink};
 use testkit::worked::{SHORT, SPOILED, SUM, Worked, behind, first_lines};
 use yparse::machine::UnwindFault;
 use yparse::{Session, read_tokens};
+use ysymbols::let_go;
 use ytables::Link;
 
 /// What is written of a halted session.
@@ -29,13 +30,7 @@ struct Resumed {
 impl Drop for Resumed {
     // A call in each owner, which keeps their proofs short.
     fn drop(self) {
-        let Resumed {
-            answer: _,
-            before: _,
-            position: _,
-            steps: _,
-            trees: _,
-        } = self;
+        let_go!(self: Resumed { answer, before, position, steps, trees });
     }
 }
 

@@ -2,7 +2,7 @@
 
 use crate::gather::Gather;
 use crate::parts::Named;
-use std::alloc::AllocError;
+use yexplain::reads::Made;
 use yforeign::directive::is_symbol;
 use yforeign::lexeme::{Kind, Lexeme};
 
@@ -24,7 +24,7 @@ struct Walk<'a> {
 
 impl<'a> Gather<'a, '_> {
     /// Names the value of a place.
-    fn name(&mut self, name: &'a [u8], place: usize) -> Result<(), AllocError> {
+    fn name(&mut self, name: &'a [u8], place: usize) -> Made<()> {
         self.parts.names.push(Named { name, place })?;
         Ok(())
     }
@@ -37,7 +37,7 @@ impl<'a> Gather<'a, '_> {
     }
 
     /// Takes in an action.
-    fn take_action(&mut self, tag: Option<&'a [u8]>, lexeme: &Lexeme) -> Result<(), AllocError> {
+    fn take_action(&mut self, tag: Option<&'a [u8]>, lexeme: &Lexeme) -> Made<()> {
         let piece = self.piece(lexeme);
         self.actions.push(piece)?;
         self.action_tags.push(tag)?;
@@ -45,7 +45,7 @@ impl<'a> Gather<'a, '_> {
     }
 
     /// Takes in a lexeme of a body.
-    fn take_part(&mut self, walk: &mut Walk<'a>, lexeme: &Lexeme) -> Result<(), AllocError> {
+    fn take_part(&mut self, walk: &mut Walk<'a>, lexeme: &Lexeme) -> Made<()> {
         let text = lexeme.text(self.source);
         let is_prec = walk.is_prec;
         walk.is_prec = lexeme.kind == Kind::Word;
@@ -73,7 +73,7 @@ impl<'a> Gather<'a, '_> {
     }
 
     /// Takes in a body.
-    fn take_body(&mut self, lexemes: &[Lexeme]) -> Result<(), AllocError> {
+    fn take_body(&mut self, lexemes: &[Lexeme]) -> Made<()> {
         let mut walk = Walk {
             place: 0,
             tag: None,
@@ -86,14 +86,14 @@ impl<'a> Gather<'a, '_> {
     }
 
     /// Begins a body, whose left side has this name.
-    fn begin(&mut self) -> Result<(), AllocError> {
+    fn begin(&mut self) -> Made<()> {
         let (names, left) = (self.parts.names.len(), self.left);
         self.parts.bodies.push(names)?;
         self.name(left, 0)
     }
 
     /// Takes in a rule from its left side.
-    pub fn take_rule(&mut self, lexemes: &[Lexeme]) -> Result<(), AllocError> {
+    pub fn take_rule(&mut self, lexemes: &[Lexeme]) -> Made<()> {
         let Some((left, rest)) = lexemes.split_first() else {
             return Ok(());
         };
@@ -108,7 +108,7 @@ impl<'a> Gather<'a, '_> {
     }
 
     /// Takes in a rule that has the left side of the one before it.
-    pub fn take_bar(&mut self, lexemes: &[Lexeme]) -> Result<(), AllocError> {
+    pub fn take_bar(&mut self, lexemes: &[Lexeme]) -> Made<()> {
         self.begin()?;
         self.take_body(lexemes.get(1..).unwrap_or(&[]))
     }

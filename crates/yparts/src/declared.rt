@@ -7,7 +7,7 @@ use crate::params::{is_done, param_at};
 use crate::parts::{Block, Care, Deed, Piece, Taker, Target, Whose};
 use crate::refusal::{Refusal, Trouble};
 use crate::words::{Word, target_of, word_of};
-use std::alloc::AllocError;
+use yexplain::reads::Made;
 use yforeign::directive::{is_symbol, is_word};
 use yforeign::lexeme::{Kind, Lexeme};
 use yforeign::survey::{inside, is_macro, is_text};
@@ -28,13 +28,13 @@ fn within<'a>(piece: Piece<'a>) -> Piece<'a> {
 
 impl<'a> Gather<'a, '_> {
     /// Takes in code for a place.
-    fn take_text(&mut self, target: Target, piece: Piece<'a>) -> Result<(), AllocError> {
+    fn take_text(&mut self, target: Target, piece: Piece<'a>) -> Made<()> {
         self.parts.blocks.push(Block { target, piece })?;
         Ok(())
     }
 
     /// Takes in a code block.
-    pub fn take_block(&mut self, lexeme: &Lexeme) -> Result<(), AllocError> {
+    pub fn take_block(&mut self, lexeme: &Lexeme) -> Made<()> {
         let piece = within(self.piece(lexeme));
         self.take_text(Target::Prologue, piece)
     }
@@ -52,7 +52,7 @@ impl<'a> Gather<'a, '_> {
     }
 
     /// Takes in `%union`.
-    pub fn take_union(&mut self, rest: &[Lexeme]) -> Result<(), AllocError> {
+    pub fn take_union(&mut self, rest: &[Lexeme]) -> Made<()> {
         if let Some(name) = self.first(rest, Kind::Name) {
             self.parts.options.union_name = Some(name.text);
         }
@@ -108,7 +108,7 @@ impl<'a> Gather<'a, '_> {
     }
 
     /// Whose values a lexeme means.
-    fn whose(&self, lexeme: &Lexeme) -> Result<Option<Whose<'a>>, AllocError> {
+    fn whose(&self, lexeme: &Lexeme) -> Made<Option<Whose<'a>>> {
         if lexeme.kind == Kind::Tag {
             let tag = inner(lexeme.text(self.source)).trim_ascii();
             return Ok(Some(match tag {
@@ -124,7 +124,7 @@ impl<'a> Gather<'a, '_> {
     }
 
     /// Takes in code for the values of some symbols.
-    fn take_care(&mut self, deed: Deed, rest: &[Lexeme]) -> Result<(), AllocError> {
+    fn take_care(&mut self, deed: Deed, rest: &[Lexeme]) -> Made<()> {
         let Some(piece) = self.first(rest, Kind::Braced) else {
             return Ok(());
         };
@@ -208,7 +208,7 @@ impl<'a> Gather<'a, '_> {
     }
 
     /// Takes in a list of symbols: each has the tag before it.
-    pub fn take_list(&mut self, rest: &[Lexeme]) -> Result<(), AllocError> {
+    pub fn take_list(&mut self, rest: &[Lexeme]) -> Made<()> {
         let mut tag = None;
         for (at, lexeme) in rest.iter().enumerate() {
             if lexeme.kind == Kind::Tag {

@@ -2,10 +2,11 @@
 
 use crate::parts::{Parts, Piece};
 use crate::words::is_only_bison;
-use std::alloc::{AllocError, Global};
+use std::alloc::Global;
+use yexplain::reads::Made;
 use yforeign::lexeme::{Kind, Lexeme};
 use yimport::import::Imported;
-use ysymbols::{Grammar, Sym};
+use ysymbols::{Grammar, Sym, let_go};
 
 /// The text of a lexeme as a piece.
 pub fn piece_of<'a>(source: &'a [u8], lexeme: &Lexeme) -> Piece<'a> {
@@ -39,16 +40,9 @@ pub struct Gather<'a, 'b> {
 impl Drop for Gather<'_, '_> {
     // A call in each owner, which keeps their proofs short.
     fn drop(self) {
-        let Gather {
-            alloc: _,
-            source: _,
-            grammar: _,
-            imported: _,
-            parts: _,
-            actions: _,
-            action_tags: _,
-            left: _,
-        } = self;
+        let_go!(self: Gather {
+            alloc, source, grammar, imported, parts, actions, action_tags, left
+        });
     }
 }
 
@@ -59,7 +53,7 @@ impl<'a, 'b> Gather<'a, 'b> {
     }
 
     /// The symbol that a lexeme names.
-    pub fn symbol(&self, lexeme: &Lexeme) -> Result<Option<Sym>, AllocError> {
+    pub fn symbol(&self, lexeme: &Lexeme) -> Made<Option<Sym>> {
         let spelling = &self.imported.spelling;
         spelling.symbol(self.alloc, self.source, self.grammar, lexeme)
     }
@@ -72,7 +66,7 @@ impl<'a, 'b> Gather<'a, 'b> {
     }
 
     /// Notes what a file says of a symbol by naming it below a tag or without one.
-    pub fn see_symbol(&mut self, lexeme: &Lexeme, tag: Option<&'a [u8]>) -> Result<(), AllocError> {
+    pub fn see_symbol(&mut self, lexeme: &Lexeme, tag: Option<&'a [u8]>) -> Made<()> {
         let text = lexeme.text(self.source);
         let is_made = self.imported.spelling.is_made(self.source, lexeme);
         let is_literal = matches!(lexeme.kind, Kind::Literal | Kind::ByteLiteral);
@@ -91,7 +85,7 @@ impl<'a, 'b> Gather<'a, 'b> {
     }
 
     /// Notes a name of the end.
-    fn name_end(&mut self, lexeme: &Lexeme) -> Result<(), AllocError> {
+    fn name_end(&mut self, lexeme: &Lexeme) -> Made<()> {
         let name = lexeme.text(self.source);
         if lexeme.kind == Kind::Name && !self.parts.ends.iter().any(|end| *end == name) {
             self.parts.ends.push(name)?;
@@ -100,7 +94,7 @@ impl<'a, 'b> Gather<'a, 'b> {
     }
 
     /// Notes the strings that the file has for symbols.
-    pub fn label_all(&mut self) -> Result<(), AllocError> {
+    pub fn label_all(&mut self) -> Made<()> {
         let source = self.source;
         let spelling = &self.imported.spelling;
         let strings = spelling.strings(self.alloc, source, self.grammar)?;

@@ -1,12 +1,13 @@
 //! The parts of a file that `yacc` reads, by its source map.
 
 use crate::parts::{Block, Parts, Piece, Target};
-use std::alloc::{AllocError, Global};
+use std::alloc::Global;
 use std::mem;
-use yexplain::lines::{Spots, symbol_of};
+use yexplain::lines::{Spots, name_in, symbol_of};
+use yexplain::reads::Made;
 use ylexemes::part::Lexeme;
 use ysourcemap::{Mark, Role};
-use ysymbols::{Grammar, Sym};
+use ysymbols::{Grammar, Sym, let_go};
 
 /// A file whose parts are gathered.
 struct Gather<'a, 'b> {
@@ -23,23 +24,7 @@ struct Gather<'a, 'b> {
 impl Drop for Gather<'_, '_> {
     // A call in each owner, which keeps their proofs short.
     fn drop(self) {
-        let Gather {
-            source: _,
-            grammar: _,
-            spots: _,
-            parts: _,
-            actions: _,
-            tag: _,
-            marks: _,
-        } = self;
-    }
-}
-
-/// The name of a lexeme, where it is one.
-fn name_in(lexeme: Lexeme<'_>) -> Option<&[u8]> {
-    match lexeme {
-        Lexeme::Name(name) | Lexeme::CIdentifier(name) => Some(name),
-        _ => None,
+        let_go!(self: Gather { source, grammar, spots, parts, actions, tag, marks });
     }
 }
 
@@ -54,7 +39,7 @@ impl<'a> Gather<'a, '_> {
     }
 
     /// Takes in code.
-    fn take_text(&mut self, target: Target, from: usize, to: usize) -> Result<(), AllocError> {
+    fn take_text(&mut self, target: Target, from: usize, to: usize) -> Made<()> {
         let piece = self.piece(from, to);
         self.parts.blocks.push(Block { target, piece })?;
         Ok(())
@@ -77,7 +62,7 @@ impl<'a> Gather<'a, '_> {
     }
 
     /// Takes in a lexeme.
-    fn take(&mut self, mark: &Mark<'a>) -> Result<(), AllocError> {
+    fn take(&mut self, mark: &Mark<'a>) -> Made<()> {
         let (lexeme, at, end) = (mark.placed.lexeme, mark.placed.at, mark.placed.end);
         match (mark.role, lexeme) {
             (Role::Block, _) => {
@@ -107,7 +92,7 @@ pub fn parts_of<'a>(
     source: &'a [u8],
     grammar: &Grammar,
     marks: &[Mark<'a>],
-) -> Result<Parts<'a>, AllocError> {
+) -> Made<Parts<'a>> {
     let mut gather = Gather {
         source,
         grammar,

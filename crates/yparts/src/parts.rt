@@ -1,8 +1,9 @@
 //! The parts of a file that go into its parser.
 
 use crate::options::Options;
-use std::alloc::{AllocError, Global};
+use std::alloc::Global;
 use yexplain::lines::is_inner;
+use yexplain::reads::Made;
 use ysymbols::{Grammar, Sym};
 
 /// A text of the file.
@@ -164,7 +165,7 @@ const PLAIN: Looks<'static> = Looks {
 
 impl<'a> Parts<'a> {
     /// Nothing but symbols.
-    pub fn new(alloc: Global, symbols: usize) -> Result<Parts<'a>, AllocError> {
+    pub fn new(alloc: Global, symbols: usize) -> Made<Parts<'a>> {
         Ok(Parts {
             blocks: Vec::new(alloc),
             looks: vec![in alloc; PLAIN; symbols]?,
@@ -210,11 +211,7 @@ impl<'a> Parts<'a> {
     }
 
     /// Takes in the texts of actions, in the order of the file, which is that of their rules.
-    pub fn set_actions(
-        &mut self,
-        grammar: &Grammar,
-        pieces: &[Piece<'a>],
-    ) -> Result<(), AllocError> {
+    pub fn set_actions(&mut self, grammar: &Grammar, pieces: &[Piece<'a>]) -> Made<()> {
         let mut pieces = pieces.iter();
         let mut body: usize = 0;
         for rule in 1..grammar.rules() {

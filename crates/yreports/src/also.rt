@@ -41,11 +41,11 @@ impl Trials<'_> {
     fn mark_all(&mut self, (token, rule): (Sym, usize), advice: Advice, is_set: bool) {
         match advice {
             Advice::End | Advice::Inner | Advice::General => {}
-            Advice::Both { .. } | Advice::Token { .. } => self.mark(token, is_set),
+            Advice::Both { .. } | Advice::Token(_) => self.mark(token, is_set),
             Advice::Rule(giver) => self.mark(giver, is_set),
-            Advice::Lines { giver, .. } => {
+            Advice::Lines(words) => {
                 self.mark(token, is_set);
-                self.mark(giver, is_set);
+                self.mark(words.giver, is_set);
             }
             Advice::Own => self.mark_own(token, rule, is_set),
         }

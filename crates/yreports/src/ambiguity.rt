@@ -3,11 +3,12 @@
 
 use crate::ambiguity_text::AmbiguityText;
 use crate::blocks::Entry;
-use std::alloc::{AllocError, Global};
+use std::alloc::Global;
 use std::io::Write;
 use yambiguity::answer::{Ambiguities, Answer, Rivals};
 use yambiguity::choice::{Cell, Choice};
 use ycounterexample::finding::{Allows, Finding, Seeker};
+use yexplain::reads::Made;
 use yview::page::Page;
 
 /// The most rules of a block that are set against what is taken.
@@ -44,14 +45,16 @@ fn answer_of(
     found: &mut Ambiguities,
     allows: Option<Allows>,
     rivals: Rivals,
-) -> Result<Option<Answer>, AllocError> {
-    let tables = seeker.session.tables();
-    let answer = match allows {
-        Some(Allows::Both) => found.seek_both(tables, &mut seeker.finder, rivals)?,
-        Some(Allows::One) => found.seek_each(tables, &mut seeker.finder, rivals)?,
+) -> Made<Option<Answer>> {
+    let are_both = match allows {
+        Some(Allows::Both) => true,
+        Some(Allows::One) => false,
         Some(Allows::Found) | None => return Ok(None),
     };
-    Ok(Some(answer))
+    let tables = seeker.session.tables();
+    found
+        .seek(tables, &mut seeker.finder, (rivals, are_both))
+        .map(Some)
 }
 
 /// What can be found for the first conflict of a block: for what is taken and each of the first
@@ -62,7 +65,7 @@ pub fn answers_of(
     found: &mut Ambiguities,
     entry: &Entry,
     finding: &Finding,
-) -> Result<Vec<Answer>, AllocError> {
+) -> Made<Vec<Answer>> {
     let mut answers = Vec::new(alloc);
     for rule in entry.kind.others().iter().take(MOST_RULES) {
         let rivals = Rivals {
@@ -96,7 +99,7 @@ pub fn put_answers<W: Write>(
     page: &mut Page<W>,
     text: AmbiguityText<'_>,
     answers: &[Answer],
-) -> Result<(), AllocError> {
+) -> Made<()> {
     for answer in answers {
         if let Some(twins) = &answer.twins {
             return text.put_twins(alloc, page, twins);

@@ -1,11 +1,12 @@
 //! Sentences and trees for the rivals of a conflict, as they are written.
 
-use std::alloc::{AllocError, Global};
+use std::alloc::Global;
 use std::io::Write;
 use yambiguity::answer::{Answer, Sentence, Twins};
 use yambiguity::choice::Choice;
 use yambiguity::trees::{Node, Trees};
 use yexplain::lines::Lines;
+use yexplain::reads::Made;
 use yexplain::text::{Name, Names, Numbered};
 use ysymbols::{Grammar, Sym};
 use yview::page::Page;
@@ -40,10 +41,12 @@ struct Drawn {
     line: Option<usize>,
 }
 
-/// Writes a period where the conflict is.
-fn put_dot<W: Write>(page: &mut Page<W>, drawn: Drawn) {
-    if drawn.leaves == drawn.dot {
-        page.put(" .");
+impl Drawn {
+    /// Ends the line of leaves, where one is begun.
+    fn end_line<W: Write>(self, page: &mut Page<W>) {
+        if self.line.is_some() {
+            page.end();
+        }
     }
 }
 
@@ -85,18 +88,11 @@ impl AmbiguityText<'_> {
     }
 
     /// Writes a leaf, on the line of the leaves beside it.
-    fn put_leaf<W: Write>(
-        self,
-        page: &mut Page<W>,
-        drawn: Drawn,
-        level: usize,
-        symbol: Sym,
-    ) -> Drawn {
-        let mut drawn = drawn;
+    fn put_leaf<W: Write>(self, page: &mut Page<W>, drawn: &mut Drawn, level: usize, symbol: Sym) {
         if drawn.line == Some(level) {
             page.put(" ");
         } else {
-            self.end_line(page, drawn);
+            drawn.end_line(page);
             begin(page, level);
         }
         if drawn.leaves == 0 && drawn.dot == 0 {
@@ -105,36 +101,21 @@ impl AmbiguityText<'_> {
         let _ = write!(page, "{}", Name(self.grammar, symbol));
         drawn.leaves = drawn.leaves.saturating_add(1);
         drawn.line = Some(level);
-        put_dot(page, drawn);
-        drawn
-    }
-
-    /// Ends the line of leaves, where one is begun.
-    fn end_line<W: Write>(self, page: &mut Page<W>, drawn: Drawn) {
-        if drawn.line.is_some() {
-            page.end();
+        if drawn.leaves == drawn.dot {
+            page.put(" .");
         }
     }
 
     /// Writes the root of a tree: its left side and its rule.
-    fn put_root<W: Write>(
-        self,
-        page: &mut Page<W>,
-        drawn: Drawn,
-        level: usize,
-        node: Node,
-    ) -> Drawn {
-        self.end_line(page, drawn);
+    fn put_root<W: Write>(self, page: &mut Page<W>, drawn: &mut Drawn, level: usize, node: Node) {
+        drawn.end_line(page);
         begin(page, level);
         let _ = write!(page, "{}", Name(self.grammar, node.symbol));
         if let Some(rule) = node.rule {
             let _ = write!(page, "  rule {rule}");
         }
         page.end();
-        Drawn {
-            line: None,
-            ..drawn
-        }
+        drawn.line = None;
     }
 
     /// Draws a tree: each rule on a line, its children below it, leaves beside one another.
@@ -144,7 +125,7 @@ impl AmbiguityText<'_> {
         page: &mut Page<W>,
         tree: usize,
         dot: usize,
-    ) -> Result<(), AllocError> {
+    ) -> Made<()> {
         let mut open = Vec::new(alloc);
         open.push((0usize, tree))?;
         let mut drawn = Drawn {
@@ -160,13 +141,13 @@ impl AmbiguityText<'_> {
                 break;
             };
             if node.stands {
-                drawn = self.put_leaf(page, drawn, level, node.symbol);
+                self.put_leaf(page, &mut drawn, level, node.symbol);
             } else {
-                drawn = self.put_root(page, drawn, level, node);
+                self.put_root(page, &mut drawn, level, node);
                 self.push_children(&mut open, level, tree)?;
             }
         }
-        self.end_line(page, drawn);
+        drawn.end_line(page);
         if !open.is_empty() {
             page.line("    ..");
         }
@@ -174,12 +155,7 @@ impl AmbiguityText<'_> {
     }
 
     /// Puts the children of a tree on those that are to be drawn, the first one last.
-    fn push_children(
-        self,
-        open: &mut Vec<(usize, usize)>,
-        level: usize,
-        tree: usize,
-    ) -> Result<(), AllocError> {
+    fn push_children(self, open: &mut Vec<(usize, usize)>, level: usize, tree: usize) -> Made<()> {
         for child in self.trees.children(tree).iter().rev() {
             open.push((level.saturating_add(1), *child))?;
         }
@@ -187,12 +163,7 @@ impl AmbiguityText<'_> {
     }
 
     /// Writes a sentence with two trees.
-    pub fn put_twins<W: Write>(
-        self,
-        alloc: Global,
-        page: &mut Page<W>,
-        twins: &Twins,
-    ) -> Result<(), AllocError> {
+    pub fn put_twins<W: Write>(self, alloc: Global, page: &mut Page<W>, twins: &Twins) -> Made<()> {
         page.put("  The grammar is ambiguous: two trees for");
         self.put_tokens(page, &twins.sentence);
         self.put_choice(page, twins.sentence.choice);
@@ -209,7 +180,7 @@ impl AmbiguityText<'_> {
         page: &mut Page<W>,
         answer: &Answer,
         written: &mut Vec<Choice>,
-    ) -> Result<(), AllocError> {
+    ) -> Made<()> {
         for sentence in &answer.sentences {
             if !written.contains(&sentence.choice) {
                 self.put_choice(page, sentence.choice);

@@ -1,9 +1,10 @@
 //! Conflicts in blocks: those of one state between the same rivals, with what settled them.
 
-use std::alloc::{AllocError, Global};
+use std::alloc::Global;
 use std::io::{self, Write};
 use ycounterexample::groups::{Conflicts, Group, Kind};
 use yexplain::lines::Lines;
+use yexplain::reads::Made;
 use yexplain::why::Question;
 use ytables::Tables;
 
@@ -82,7 +83,7 @@ impl Entry {
 }
 
 /// A text without the lines that name rivals.
-fn without_rivals(alloc: Global, text: &[u8]) -> Result<Vec<u8>, AllocError> {
+fn without_rivals(alloc: Global, text: &[u8]) -> Made<Vec<u8>> {
     let mut kept = Vec::new(alloc);
     for line in text.split(|byte| *byte == b'\n') {
         let is_rival = RIVALS.iter().any(|front| line.starts_with(*front));
@@ -95,7 +96,7 @@ fn without_rivals(alloc: Global, text: &[u8]) -> Result<Vec<u8>, AllocError> {
 }
 
 /// Adds a word of a text: a mark in place of a name, whatever punctuation follows it.
-fn push_word(text: &mut Vec<u8>, word: &[u8], name: &[u8]) -> Result<(), AllocError> {
+fn push_word(text: &mut Vec<u8>, word: &[u8], name: &[u8]) -> Made<()> {
     let mut shown = word;
     if let Some(rest) = word.strip_prefix(name) {
         if rest.iter().all(|byte| b".,:;\n".contains(byte)) {
@@ -109,7 +110,7 @@ fn push_word(text: &mut Vec<u8>, word: &[u8], name: &[u8]) -> Result<(), AllocEr
 }
 
 /// A reason with a mark in place of a name.
-fn marked(alloc: Global, reason: &[u8], name: &[u8]) -> Result<Vec<u8>, AllocError> {
+fn marked(alloc: Global, reason: &[u8], name: &[u8]) -> Made<Vec<u8>> {
     let mut text = Vec::new(alloc);
     for word in reason.split(|byte| *byte == b' ') {
         push_word(&mut text, word, name)?;
@@ -136,7 +137,7 @@ impl Class {
     }
 
     /// Takes another class with the same text in, or gives it back.
-    fn join(&mut self, other: Class) -> Result<Option<Class>, AllocError> {
+    fn join(&mut self, other: Class) -> Made<Option<Class>> {
         if self.marked.as_slice() != other.marked.as_slice() {
             return Ok(Some(other));
         }
@@ -147,7 +148,7 @@ impl Class {
 
 impl Block {
     /// Adds a class, where there is none with the same text that takes it in.
-    fn add(&mut self, class: Class) -> Result<(), AllocError> {
+    fn add(&mut self, class: Class) -> Made<()> {
         let mut left = Some(class);
         for known in self.classes.iter_mut() {
             if let Some(class) = left.take() {
@@ -163,7 +164,7 @@ impl Block {
 
 impl Blocks {
     /// The place of the block of a conflict, which is begun where there is none.
-    fn place(&mut self, alloc: Global, entry: Entry) -> Result<usize, AllocError> {
+    fn place(&mut self, alloc: Global, entry: Entry) -> Made<usize> {
         let mut blocks = self.list.iter();
         if let Some(place) = blocks.position(|block| block.first.is_alike(&entry)) {
             return Ok(place);
@@ -177,7 +178,7 @@ impl Blocks {
     }
 
     /// Adds a conflict with what is said of its cell.
-    fn add(&mut self, alloc: Global, entry: Entry, class: Class) -> Result<(), AllocError> {
+    fn add(&mut self, alloc: Global, entry: Entry, class: Class) -> Made<()> {
         let place = self.place(alloc, entry)?;
         self.kinds = self.kinds.saturating_add(1);
         match self.list.get_mut(place) {

@@ -4,10 +4,10 @@
 use crate::covered::{Covered, covered_of};
 use crate::tried::{Marks, Tried, counted, tried_of};
 use indexmap::IndexMap;
-use std::alloc::{AllocError, Global};
+use std::alloc::Global;
 use ycounterexample::groups::Conflicts;
 use yexplain::lines::{Lines, is_inner};
-use yexplain::reads::{grammar_of, level_of, set};
+use yexplain::reads::{Made, grammar_of, level_of, set};
 use ylalr::END;
 use ysymbols::{Grammar, Sym};
 use ytables::Tables;
@@ -58,7 +58,7 @@ struct Classes {
 }
 
 impl Classes {
-    fn new(alloc: Global, tokens: usize) -> Result<Classes, AllocError> {
+    fn new(alloc: Global, tokens: usize) -> Made<Classes> {
         let mut of = Vec::with_capacity(alloc, tokens)?;
         for token in 0..tokens {
             of.push(token)?;
@@ -101,7 +101,7 @@ impl Classes {
     }
 
     /// The tokens of a class that need precedences.
-    fn members(&self, alloc: Global, class: usize) -> Result<Vec<Sym>, AllocError> {
+    fn members(&self, alloc: Global, class: usize) -> Made<Vec<Sym>> {
         let mut tokens = Vec::new(alloc);
         for (token, needed) in self.needed.iter().enumerate() {
             if *needed && self.class(token) == class {
@@ -128,17 +128,15 @@ fn changes_of(
     grammar: &Grammar,
     lines: &Lines,
     cells: &[Tried],
-) -> Result<Vec<Change>, AllocError> {
+) -> Made<Vec<Change>> {
     let mut classes = Classes::new(alloc, grammar.symbols())?;
     let mut changes = Vec::new(alloc);
-    for cell in cells
-        .iter()
-        .filter(|cell| cell.shift.is_some() && cell.token != END)
-    {
-        for rule in cell.rules() {
+    let contests = cells.iter().map(|cell| cell.contest);
+    for contest in contests.filter(|it| it.shift.is_some() && it.token != END) {
+        for rule in contest.rules().unwrap_or(&[]) {
             match lines.giver(grammar, *rule) {
-                Some(giver) => classes.note(grammar, cell.token, giver),
-                None => push_own(alloc, grammar, &mut changes, *rule, cell.token)?,
+                Some(giver) => classes.note(grammar, contest.token, giver),
+                None => push_own(alloc, grammar, &mut changes, *rule, contest.token)?,
             }
         }
     }
@@ -162,7 +160,7 @@ fn push_own(
     changes: &mut Vec<Change>,
     rule: usize,
     token: Sym,
-) -> Result<(), AllocError> {
+) -> Made<()> {
     let is_there = changes.iter().any(|it| it.rule == Some(rule));
     if is_there || is_inner(grammar, rule) || changes.len() >= MOST_CHANGES {
         return Ok(());
@@ -211,7 +209,7 @@ impl Seeker<'_> {
     }
 
     /// The changes that settle the most, one after another.
-    fn choose(&mut self, changes: Vec<Change>, all: usize) -> Result<Vec<Change>, AllocError> {
+    fn choose(&mut self, changes: Vec<Change>, all: usize) -> Made<Vec<Change>> {
         let mut changes = changes;
         let mut chosen = Vec::new(self.alloc);
         let mut left = all;
@@ -233,10 +231,7 @@ impl Seeker<'_> {
 }
 
 /// How many conflicts are between each two rules in cells that can't be shifted.
-fn pairs_of(
-    alloc: Global,
-    found: &Conflicts,
-) -> Result<IndexMap<(usize, usize), usize>, AllocError> {
+fn pairs_of(alloc: Global, found: &Conflicts) -> Made<IndexMap<(usize, usize), usize>> {
     let mut pairs: IndexMap<(usize, usize), usize> = IndexMap::new(alloc);
     for (kind, group) in &found.groups {
         let Some(taken) = kind.taken() else {
@@ -257,7 +252,7 @@ fn all_covered(
     lines: &Lines,
     pairs: &IndexMap<(usize, usize), usize>,
     all: usize,
-) -> Result<Vec<Covered>, AllocError> {
+) -> Made<Vec<Covered>> {
     let mut found = Vec::new(alloc);
     for (pair, _) in pairs.iter().take(MOST_COVERED) {
         if let Some(covered) = covered_of(alloc, tables, lines, *pair, all)? {
@@ -273,7 +268,7 @@ pub fn causes_of(
     tables: &Tables,
     lines: &Lines,
     found: &Conflicts,
-) -> Result<Option<Causes>, AllocError> {
+) -> Made<Option<Causes>> {
     let kinds = found.groups.len();
     if kinds < 2 || kinds > MOST_KINDS || found.others > 0 {
         return Ok(None);

@@ -1,10 +1,10 @@
 //! Rules that others cover: what they derive comes of those too, so the language stays the same
 //! without them.
 
-use std::alloc::{AllocError, Global};
+use std::alloc::Global;
 use ychanged::{Change, conflicts_after};
 use yexplain::lines::Lines;
-use yexplain::reads::{body_of, grammar_of, left_of, set};
+use yexplain::reads::{Made, body_of, grammar_of, left_of, set};
 use ysymbols::{Grammar, Sym};
 use ytables::Tables;
 
@@ -45,7 +45,7 @@ fn links_from(
     grammar: &Grammar,
     from: Sym,
     without: usize,
-) -> Result<Vec<Option<usize>>, AllocError> {
+) -> Made<Vec<Option<usize>>> {
     let mut reached = vec![in alloc; None; grammar.symbols()]?;
     for _ in 0..MOST_LINKS {
         for rule in 1..grammar.rules() {
@@ -83,7 +83,7 @@ fn cover_by(
     grammar: &Grammar,
     rule: usize,
     other: usize,
-) -> Result<Option<Vec<usize>>, AllocError> {
+) -> Made<Option<Vec<usize>>> {
     let (Some(from), Some(to)) = (left_of(grammar, rule), left_of(grammar, other)) else {
         return Ok(None);
     };
@@ -113,7 +113,7 @@ pub fn covered_of(
     lines: &Lines,
     (one, other): (usize, usize),
     all: usize,
-) -> Result<Option<Covered>, AllocError> {
+) -> Made<Option<Covered>> {
     let grammar = grammar_of(tables);
     let is_same = body_of(grammar, one) == body_of(grammar, other);
     if !is_same || tables.automaton().states() > MOST_STATES {

@@ -14,7 +14,7 @@ use crate::list_text::{ListText, put_unfound};
 use crate::saving::Folder;
 use crate::splitting::{MOST_SPLITS, split_of};
 use crate::warnings::put_warnings;
-use std::alloc::{AllocError, Global};
+use std::alloc::Global;
 use std::io::{self, Write};
 use std::rt::Files;
 use yambiguity::answer::Ambiguities;
@@ -22,9 +22,8 @@ use ycounterexample::finding::{Finding, Seeker, file_tokens};
 use ycounterexample::groups::{Conflicts, Kind};
 use ycounterexample::trial::empty_session;
 use yexplain::lines::Lines;
-use yexplain::reads::grammar_of;
+use yexplain::reads::{Made, grammar_of};
 use yexplain::sources::{Source, sources_of};
-use yexplain::why::explain;
 use yfaults::opening::Opened;
 use yparse::Session;
 use yreasons::Reasons;
@@ -64,7 +63,7 @@ fn all_sources(
     tables: &Tables,
     lines: &Lines,
     blocks: &[Block],
-) -> Result<Vec<Vec<Source>>, AllocError> {
+) -> Made<Vec<Vec<Source>>> {
     let reasons = Reasons::of(alloc, tables.automaton())?;
     let mut sources = Vec::new(alloc);
     for block in blocks {
@@ -126,12 +125,7 @@ impl<W: Write, F: Files + AllocGlobal + Clone + Drop> Report<'_, W, F> {
 
     /// Writes the conflicts of a block, why they are settled so, what leads to the shift of the
     /// first one, and where its token comes from.
-    fn put_block(
-        &mut self,
-        tables: &Tables,
-        block: &Block,
-        sources: &[Source],
-    ) -> Result<(), AllocError> {
+    fn put_block(&mut self, tables: &Tables, block: &Block, sources: &[Source]) -> Made<()> {
         let (path, lines) = (self.path, self.lines);
         BlockText {
             path,

@@ -1,11 +1,11 @@
 //! Copies of nonterminals that split states which were merged: each was tried by tables of its own.
 
-use std::alloc::{AllocError, Global};
+use std::alloc::Global;
 use std::io::{self, Write};
 use ychanged::{Change, conflicts_after};
 use ycounterexample::groups::Kind;
 use yexplain::lines::{Lines, is_inner};
-use yexplain::reads::{body_of, grammar_of, left_of};
+use yexplain::reads::{Made, body_of, grammar_of, left_of};
 use yexplain::text::{Name, Numbered};
 use ysymbols::{Grammar, Sym};
 use ytables::Tables;
@@ -39,7 +39,7 @@ fn count_of(tables: &Tables) -> usize {
 }
 
 /// The rules whose bodies have a nonterminal, where there are several.
-fn users_of(alloc: Global, grammar: &Grammar, symbol: Sym) -> Result<Vec<usize>, AllocError> {
+fn users_of(alloc: Global, grammar: &Grammar, symbol: Sym) -> Made<Vec<usize>> {
     let mut users = Vec::new(alloc);
     for rule in 1..grammar.rules() {
         if body_of(grammar, rule).iter().any(|it| *it == symbol) {
@@ -53,11 +53,7 @@ fn users_of(alloc: Global, grammar: &Grammar, symbol: Sym) -> Result<Vec<usize>,
 }
 
 /// The copies that may split a state: of the left sides of these rules.
-fn copies_of(
-    alloc: Global,
-    grammar: &Grammar,
-    rules: &[usize],
-) -> Result<Vec<(Sym, usize)>, AllocError> {
+fn copies_of(alloc: Global, grammar: &Grammar, rules: &[usize]) -> Made<Vec<(Sym, usize)>> {
     let mut copies = Vec::new(alloc);
     for rule in rules {
         let Some(symbol) = left_of(grammar, *rule) else {
@@ -75,12 +71,7 @@ fn copies_of(
 
 /// The copy that leaves the fewest conflicts, where one leaves fewer than there are: of the left
 /// sides of the rules of a kind of conflict, for the bodies that have them.
-pub fn split_of(
-    alloc: Global,
-    tables: &Tables,
-    lines: &Lines,
-    kind: &Kind,
-) -> Result<Option<Split>, AllocError> {
+pub fn split_of(alloc: Global, tables: &Tables, lines: &Lines, kind: &Kind) -> Made<Option<Split>> {
     let (grammar, all) = (grammar_of(tables), count_of(tables));
     if tables.automaton().states() > MOST_STATES {
         return Ok(None);

@@ -1,26 +1,18 @@
 //! Cells with conflicts, and how many they would count with other precedences.
 
-use std::alloc::{AllocError, Global};
-use ycells::{Rival, settle};
-use ycounterexample::groups::{Conflicts, Group, Kind};
+use std::alloc::Global;
+use ycounterexample::groups::Conflicts;
 use yexplain::lines::Lines;
-use yexplain::supposed::Supposed;
-use yexplain::why::Question;
-use ysymbols::{Grammar, Sym};
-use ytables::{Action, Standing, Tables};
-
-/// The most rules of a cell that is tried.
-const MOST_RULES: usize = 10;
+use yexplain::reads::Made;
+use yexplain::supposed::{Contest, Supposed};
+use ysymbols::Grammar;
+use ytables::Tables;
 
 /// A cell that counts conflicts.
 #[derive(Clone, Copy, Drop)]
 pub struct Tried {
-    /// The token.
-    pub token: Sym,
-    /// The shift, where it is a candidate.
-    pub shift: Option<Action>,
-    rules: [usize; 10],
-    count: usize,
+    /// Its token, its shift and its rules.
+    pub contest: Contest,
     /// How many states have the same.
     states: usize,
     /// How many conflicts it counts.
@@ -38,7 +30,7 @@ pub struct Marks {
 
 impl Marks {
     /// Nothing is marked.
-    pub fn new(alloc: Global, grammar: &Grammar) -> Result<Marks, AllocError> {
+    pub fn new(alloc: Global, grammar: &Grammar) -> Made<Marks> {
         Ok(Marks {
             tokens: vec![in alloc; false; grammar.symbols()]?,
             rules: vec![in alloc; false; grammar.rules()]?,
@@ -47,27 +39,6 @@ impl Marks {
 }
 
 impl Tried {
-    /// The first cell of a kind.
-    fn new(asked: Question<'_>, kind: &Kind, group: Group) -> Tried {
-        let mut rules = [0usize; 10];
-        for (place, candidate) in rules.iter_mut().zip(asked.candidates()) {
-            *place = candidate.rule;
-        }
-        Tried {
-            token: asked.token,
-            shift: asked.shift(),
-            rules,
-            count: asked.candidates().count(),
-            states: group.states,
-            rivals: kind.rivals,
-        }
-    }
-
-    /// The rules of the cell; none where it has too many to be tried.
-    pub fn rules(&self) -> &[usize] {
-        self.rules.get(..self.count).unwrap_or(&[])
-    }
-
     /// How many conflicts it counts in all its states.
     pub fn weight(&self) -> usize {
         self.rivals.saturating_mul(self.states)
@@ -75,20 +46,13 @@ impl Tried {
 
     /// How many conflicts it would count in all its states with these precedences.
     fn counted(&self, supposed: Supposed<'_>) -> usize {
-        if self.count > MOST_RULES {
-            return self.weight();
+        match self.contest.settled(supposed) {
+            Some(cell) => {
+                let each = cell.shift_reduce.max(cell.reduce_reduce);
+                each.saturating_mul(self.states)
+            }
+            None => self.weight(),
         }
-        let nothing = Rival {
-            rule: 0,
-            standing: Standing::Neither,
-        };
-        let mut rivals = [nothing; 10];
-        for (rival, rule) in rivals.iter_mut().zip(self.rules()) {
-            *rival = supposed.rival(*rule, self.token);
-        }
-        let cell = settle(self.shift, rivals.get(..self.count).unwrap_or(&[]));
-        let each = cell.shift_reduce.max(cell.reduce_reduce);
-        each.saturating_mul(self.states)
     }
 }
 
@@ -98,11 +62,14 @@ pub fn tried_of(
     tables: &Tables,
     lines: &Lines,
     found: &Conflicts,
-) -> Result<Vec<Tried>, AllocError> {
+) -> Made<Vec<Tried>> {
     let mut cells = Vec::new(alloc);
     for (kind, group) in &found.groups {
-        let asked = kind.cell(*group, tables, lines);
-        cells.push(Tried::new(asked, kind, *group))?;
+        cells.push(Tried {
+            contest: Contest::of(kind.cell(*group, tables, lines)),
+            states: group.states,
+            rivals: kind.rivals,
+        })?;
     }
     Ok(cells)
 }
@@ -123,9 +90,7 @@ pub fn counted<'a>(
         tokens: marks.tokens.as_slice(),
         rules: marks.rules.as_slice(),
     };
-    let mut count: usize = 0;
-    for cell in cells {
-        count = count.saturating_add(cell.counted(supposed));
-    }
-    count
+    cells.iter().fold(0usize, |sum, cell| {
+        sum.saturating_add(cell.counted(supposed))
+    })
 }

@@ -2,14 +2,14 @@
 
 use crate::kinds::put_front;
 use crate::unused::Done;
-use std::alloc::{AllocError, Global};
+use std::alloc::Global;
 use std::io::Write;
 use yexplain::lines::{Lines, Mention, Spot};
-use yexplain::reads::{grammar_of, is_reachable, left_of, level_of, set};
+use yexplain::reads::{Made, grammar_of, is_reachable, left_of, level_of, set};
 use yexplain::text::{Name, RuleText};
 use ylalr::ERROR;
 use ysourcemap::Role;
-use ysymbols::{Grammar, Sym};
+use ysymbols::{Grammar, Sym, let_go};
 use ytables::Tables;
 use yview::page::Page;
 
@@ -36,7 +36,7 @@ pub struct Warning {
 impl Drop for Warning {
     // A call in each owner, which keeps their proofs short.
     fn drop(self) {
-        let Warning { spot: _, text: _ } = self;
+        let_go!(self: Warning { spot, text });
     }
 }
 
@@ -50,7 +50,7 @@ struct Warner<'a> {
 }
 
 impl Named {
-    fn new(alloc: Global, grammar: &Grammar, mentions: &[Mention]) -> Result<Named, AllocError> {
+    fn new(alloc: Global, grammar: &Grammar, mentions: &[Mention]) -> Made<Named> {
         let mut named = Named {
             first: vec![in alloc; None; grammar.symbols()]?,
             levelled: vec![in alloc; None; grammar.symbols()]?,
@@ -94,26 +94,20 @@ fn note(spots: &mut [Option<Spot>], mention: Mention) {
 
 impl Warner<'_> {
     /// Adds a warning.
-    fn add(&mut self, spot: Option<Spot>, text: String) -> Result<(), AllocError> {
+    fn add(&mut self, spot: Option<Spot>, text: String) -> Made<()> {
         self.found.push(Warning { spot, text })?;
         Ok(())
     }
 
     /// Adds a warning about a symbol between two texts.
-    fn warn(
-        &mut self,
-        spot: Option<Spot>,
-        before: &str,
-        symbol: Sym,
-        after: &str,
-    ) -> Result<(), AllocError> {
+    fn warn(&mut self, spot: Option<Spot>, before: &str, symbol: Sym, after: &str) -> Made<()> {
         let name = Name(self.grammar, symbol);
         let text = format!(in self.alloc; "{before}{name}{after}")?;
         self.add(spot, text)
     }
 
     /// Rules of symbols that can be reached, which are never reduced.
-    fn add_lost(&mut self, done: &Done) -> Result<(), AllocError> {
+    fn add_lost(&mut self, done: &Done) -> Made<()> {
         for rule in 1..self.grammar.rules() {
             let is_done = done.reduced.get(rule).copied().unwrap_or(true);
             if !is_done && self.is_live(rule) {
@@ -133,7 +127,7 @@ impl Warner<'_> {
     }
 
     /// Precedences of tokens that are used, but settled no cell.
-    fn add_idle_tokens(&mut self, done: &Done, named: &Named) -> Result<(), AllocError> {
+    fn add_idle_tokens(&mut self, done: &Done, named: &Named) -> Made<()> {
         for token in 0..self.grammar.symbols() {
             let settles = done.by_token.get(token).copied().unwrap_or(true);
             let is_meant = named.is_used(token) && level_of(self.grammar, token).is_some();
@@ -146,7 +140,7 @@ impl Warner<'_> {
     }
 
     /// Precedences by `%prec` that settled no cell.
-    fn add_idle_rules(&mut self, done: &Done) -> Result<(), AllocError> {
+    fn add_idle_rules(&mut self, done: &Done) -> Made<()> {
         for rule in 1..self.grammar.rules() {
             let settles = done.by_rule.get(rule).copied().unwrap_or(true);
             if !settles && self.lines.prec(rule).is_some() && self.is_live(rule) {
@@ -163,7 +157,7 @@ impl Warner<'_> {
     }
 
     /// Tokens that are declared and named in no rule.
-    fn add_unused(&mut self, named: &Named) -> Result<(), AllocError> {
+    fn add_unused(&mut self, named: &Named) -> Made<()> {
         for token in 0..self.grammar.symbols() {
             let is_token = self.grammar.is_token(token) && token > ERROR;
             if is_token && !named.is_used(token) {
@@ -175,7 +169,7 @@ impl Warner<'_> {
     }
 
     /// Symbols that are used, but can't be reached.
-    fn add_unreachable(&mut self, named: &Named) -> Result<(), AllocError> {
+    fn add_unreachable(&mut self, named: &Named) -> Made<()> {
         for symbol in 0..self.grammar.symbols() {
             let is_left = !self.grammar.is_token(symbol);
             let is_in_rules = is_left || named.in_body.get(symbol) == Some(&true);
@@ -190,11 +184,7 @@ impl Warner<'_> {
 }
 
 /// What deserves a warning in a grammar, in the order in which it is written.
-pub fn warnings_of(
-    alloc: Global,
-    tables: &Tables,
-    lines: &Lines,
-) -> Result<Vec<Warning>, AllocError> {
+pub fn warnings_of(alloc: Global, tables: &Tables, lines: &Lines) -> Made<Vec<Warning>> {
     let grammar = grammar_of(tables);
     let mut done = Done::new(alloc, tables, lines)?;
     done.spread(grammar, lines);
@@ -228,7 +218,7 @@ pub fn put_warnings<W: Write>(
     alloc: Global,
     tables: &Tables,
     lines: &Lines,
-) -> Result<usize, AllocError> {
+) -> Made<usize> {
     let warnings = warnings_of(alloc, tables, lines)?;
     if !warnings.is_empty() {
         page.end();

@@ -3,8 +3,9 @@
 //! The source map has no comments: they stand in the gaps between its lexemes, and are cut there as
 //! any part of a file is.
 
-use std::alloc::{AllocError, Global};
+use std::alloc::Global;
 use yexplain::lines::Site;
+use yexplain::reads::Made;
 use ylexemes::front::part_at;
 use ylexemes::part::Part;
 use ysourcemap::Role;
@@ -70,7 +71,7 @@ struct Found<'a> {
 
 impl<'a> Found<'a> {
     /// Adds a comment of an alternative.
-    fn push(&mut self, owner: Option<usize>, at: usize, text: &'a [u8]) -> Result<(), AllocError> {
+    fn push(&mut self, owner: Option<usize>, at: usize, text: &'a [u8]) -> Made<()> {
         if let Some(alternative) = owner {
             self.comments.push(Comment {
                 alternative,
@@ -82,7 +83,7 @@ impl<'a> Found<'a> {
     }
 
     /// Adds the comments of a gap, which goes up to the next lexeme.
-    fn add_gap(&mut self, gap: Gap) -> Result<(), AllocError> {
+    fn add_gap(&mut self, gap: Gap) -> Made<()> {
         let source = self.source;
         let mut at = gap.from;
         let mut is_below = false;
@@ -102,7 +103,7 @@ impl<'a> Found<'a> {
     }
 
     /// Adds the comments in a lexeme, between a left side and its colon, and those after it.
-    fn add_around(&mut self, site: Site, gap: Gap) -> Result<(), AllocError> {
+    fn add_around(&mut self, site: Site, gap: Gap) -> Made<()> {
         if site.name_end < site.end {
             self.add_gap(Gap {
                 from: site.name_end,
@@ -124,11 +125,7 @@ fn among_rules(sites: &[Site]) -> (usize, usize) {
 
 /// The comments among the rules of a text with these lexemes, in their order, each with its
 /// alternative.
-pub fn comments_of<'a>(
-    alloc: Global,
-    source: &'a [u8],
-    sites: &[Site],
-) -> Result<Vec<Comment<'a>>, AllocError> {
+pub fn comments_of<'a>(alloc: Global, source: &'a [u8], sites: &[Site]) -> Made<Vec<Comment<'a>>> {
     let comments = Vec::new(alloc);
     let mut found = Found { source, comments };
     let (from, to) = among_rules(sites);

@@ -2,8 +2,9 @@
 
 use crate::refusal::{Refusal, Trouble, Why};
 use crate::stems::Stem;
-use std::alloc::{AllocError, Global};
+use std::alloc::Global;
 use yexplain::lines::is_inner;
+use yexplain::reads::Made;
 use ysymbols::Grammar;
 use ysymbols::names::{SymbolTable, intern, number_in};
 
@@ -26,7 +27,7 @@ impl Names {
 
     /// Adds the name of the next rule, unless a rule before it has the name: then its place is the
     /// answer.
-    fn add(&mut self, alloc: Global, name: &[u8]) -> Result<Option<usize>, AllocError> {
+    fn add(&mut self, alloc: Global, name: &[u8]) -> Made<Option<usize>> {
         let place = number_in(&self.names, name);
         if place < self.names.len() {
             return Ok(Some(place));
@@ -47,7 +48,7 @@ struct Named<'a> {
 
 impl Named<'_> {
     /// Its name.
-    fn name(self, alloc: Global) -> Result<String, AllocError> {
+    fn name(self, alloc: Global) -> Made<String> {
         let Named { stem, action, .. } = self;
         if action > 0 {
             format!(in alloc; "RULE_{stem}_action_{action}")
@@ -73,11 +74,7 @@ impl Named<'_> {
 }
 
 /// The rules from rule 1 on. Those of inner actions stand before that of their alternative.
-fn rules_of<'a>(
-    alloc: Global,
-    grammar: &Grammar,
-    stems: &'a [Stem<'a>],
-) -> Result<Vec<Named<'a>>, AllocError> {
+fn rules_of<'a>(alloc: Global, grammar: &Grammar, stems: &'a [Stem<'a>]) -> Made<Vec<Named<'a>>> {
     let mut rules = Vec::with_capacity(alloc, grammar.rules())?;
     let (mut alternative, mut action): (usize, usize) = (0, 0);
     for rule in 1..grammar.rules() {

@@ -16,7 +16,7 @@ use ydigest::digest_of;
 use yexplain::reads::grammar_of;
 use yfaults::opening::Opened;
 use yfiles::same::{is_same_file, refused_output};
-use yfiles::writing::put_output;
+use yfiles::writing::put_asked;
 use yinput::grammars::{GrammarFile, GrammarText, open_with_text};
 
 /// What is asked for: the names of the rules of a grammar file, in a header, in a module, or where
@@ -40,33 +40,18 @@ fn named(alloc: Global, bytes: &[u8], opened: &Opened) -> Result<Names, Trouble>
     names_of(alloc, grammar, &stems)
 }
 
-/// Writes a text to a file, where one is asked for.
-fn put_text<F: Files + AllocGlobal, W: Write, E: Write>(
-    rt: &F,
-    path: Option<&str>,
-    text: &[u8],
-    out: &mut W,
-    errors: &mut E,
-) -> io::Result<u8> {
-    match path {
-        Some(_) => put_output(rt, path, text, out, errors),
-        None => Ok(0),
-    }
-}
-
 /// Makes the texts, and then writes those that are asked for.
-fn put_files<F: Files + AllocGlobal, W: Write, E: Write>(
+fn put_files<F: Files + AllocGlobal, E: Write>(
     rt: &F,
     asked: Asked<'_>,
     sheet: Sheet<'_>,
-    out: &mut W,
     errors: &mut E,
 ) -> io::Result<u8> {
     let (mut header, mut module) = (Vec::new(rt.alloc()), Vec::new(rt.alloc()));
     put_header(&mut header, sheet)?;
     put_module(&mut module, sheet)?;
-    match put_text(rt, asked.header, &header, out, errors)? {
-        0 => put_text(rt, asked.python, &module, out, errors),
+    match put_asked(rt, asked.header, &header, errors)? {
+        0 => put_asked(rt, asked.python, &module, errors),
         status => Ok(status),
     }
 }
@@ -93,7 +78,7 @@ fn put_named<F: Files + AllocGlobal, W: Write, E: Write>(
     if asked.header.is_none() && asked.python.is_none() {
         put_list(out, asked.grammar.path, sheet).map(|()| 0)
     } else {
-        put_files(rt, asked, sheet, out, errors)
+        put_files(rt, asked, sheet, errors)
     }
 }
 

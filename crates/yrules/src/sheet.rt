@@ -1,8 +1,9 @@
 //! What is written of a grammar: its rules and tokens by their names, and the digest of its table.
 
 use crate::names::Names;
-use std::alloc::{AllocError, Global};
+use std::alloc::Global;
 use yexplain::lines::Lines;
+use yexplain::reads::Made;
 use ylalr::token_count;
 use yskeleton::{CToken, in_c};
 use ysymbols::Grammar;
@@ -24,7 +25,7 @@ pub struct Sheet<'a> {
 }
 
 /// The tokens of a grammar that an input can have and that have a name in C.
-pub fn tokens_of(alloc: Global, grammar: &Grammar) -> Result<Vec<CToken<'_>>, AllocError> {
+pub fn tokens_of(alloc: Global, grammar: &Grammar) -> Made<Vec<CToken<'_>>> {
     (2..token_count(grammar))
         .filter_map(|token| in_c(grammar, token))
         .collect(alloc)

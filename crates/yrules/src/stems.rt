@@ -3,10 +3,10 @@
 
 use crate::comments::begun_by;
 use crate::given::{Given, given_to};
-use std::alloc::{AllocError, Global};
+use std::alloc::Global;
 use std::fmt;
 use yexplain::lines::{Site, is_inner};
-use yexplain::reads::{left_of, name_of};
+use yexplain::reads::{Made, left_of, name_of};
 use yexplain::text::Bytes;
 use ysymbols::{Grammar, Sym};
 
@@ -72,7 +72,7 @@ impl Places {
 }
 
 /// Where the alternatives of a file begin.
-fn starts_of(alloc: Global, sites: &[Site]) -> Result<Vec<usize>, AllocError> {
+fn starts_of(alloc: Global, sites: &[Site]) -> Made<Vec<usize>> {
     sites
         .iter()
         .filter(|site| begun_by(site.role).is_some())
@@ -87,7 +87,7 @@ pub fn stems_of<'a>(
     grammar: &'a Grammar,
     sites: &[Site],
     given: &[Given<'a>],
-) -> Result<Vec<Stem<'a>>, AllocError> {
+) -> Made<Vec<Stem<'a>>> {
     let mut places = Places(vec![in alloc; 0; grammar.symbols()]?);
     let starts = starts_of(alloc, sites)?;
     let mut stems = Vec::with_capacity(alloc, starts.len())?;

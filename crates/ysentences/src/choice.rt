@@ -3,12 +3,12 @@
 use crate::contexts::{Contexts, Place};
 use crate::seek::{Goal, MOST_TOKENS, Seeker, Sought};
 use crate::trial::{Trier, Used};
-use std::alloc::{AllocError, Global};
+use std::alloc::Global;
 use std::io;
 use ycounterexample::lists::Lists;
 use ycounterexample::others::Others;
 use ycover::elements::Kind;
-use yexplain::reads::{action_of, default_of, grammar_of, is_reachable, left_of, set};
+use yexplain::reads::{Made, action_of, default_of, grammar_of, is_reachable, left_of, set};
 use ylalr::ERROR;
 use yparse::Session;
 use ysymbols::Sym;
@@ -70,7 +70,7 @@ pub struct Chosen {
 }
 
 impl Chosen {
-    fn new(alloc: Global, count: usize) -> Result<Chosen, AllocError> {
+    fn new(alloc: Global, count: usize) -> Made<Chosen> {
         Ok(Chosen {
             sentences: Vec::new(alloc),
             used: vec![in alloc; false; count]?,
@@ -84,7 +84,7 @@ impl Chosen {
     }
 
     /// Takes a sentence, where it uses something new.
-    fn take(&mut self, tokens: Vec<Sym>, uses: Vec<usize>) -> Result<(), AllocError> {
+    fn take(&mut self, tokens: Vec<Sym>, uses: Vec<usize>) -> Made<()> {
         if uses.iter().all(|element| self.is_used(*element)) {
             return Ok(());
         }
@@ -102,7 +102,7 @@ impl Chosen {
     }
 
     /// How many sentences use each element.
-    fn counts(&self, alloc: Global) -> Result<Vec<usize>, AllocError> {
+    fn counts(&self, alloc: Global) -> Made<Vec<usize>> {
         let mut counts = vec![in alloc; 0usize; self.used.len()]?;
         for sentence in &self.sentences {
             count_in(&mut counts, &sentence.uses);
@@ -111,7 +111,7 @@ impl Chosen {
     }
 
     /// Drops each sentence whose elements are all used by others, the longest first.
-    fn thin(&mut self, alloc: Global) -> Result<(), AllocError> {
+    fn thin(&mut self, alloc: Global) -> Made<()> {
         let mut counts = self.counts(alloc)?;
         let order = self.order(alloc)?;
         for place in order.iter().rev() {
@@ -123,7 +123,7 @@ impl Chosen {
     }
 
     /// The places of the sentences, the shortest first.
-    pub fn order(&self, alloc: Global) -> Result<Vec<usize>, AllocError> {
+    pub fn order(&self, alloc: Global) -> Made<Vec<usize>> {
         let mut lengths = Vec::new(alloc);
         for (place, sentence) in self.sentences.iter().enumerate() {
             lengths.push((sentence.tokens.len(), place))?;
@@ -158,7 +158,7 @@ fn is_spared(counts: &mut [usize], elements: &[usize]) -> bool {
 }
 
 impl<'a> Chooser<'a> {
-    fn new(alloc: Global, session: &'a mut Session, kind: Kind) -> Result<Chooser<'a>, AllocError> {
+    fn new(alloc: Global, session: &'a mut Session, kind: Kind) -> Made<Chooser<'a>> {
         let seeker = Seeker::new(alloc, session.tables())?;
         let rules = grammar_of(session.tables()).rules();
         let trier = Trier::new(alloc, session, kind)?;
@@ -202,7 +202,7 @@ impl<'a> Chooser<'a> {
     }
 
     /// The shortest ways to rules, and the rules, the one with the longest sentence first.
-    fn contexts(&self) -> Result<(Contexts, Vec<Place>), AllocError> {
+    fn contexts(&self) -> Made<(Contexts, Vec<Place>)> {
         let (grammar, finder) = (grammar_of(self.trier.session.tables()), &self.seeker.finder);
         let contexts = Contexts::new(self.alloc, grammar, finder)?;
         let order = contexts.order(self.alloc, grammar, finder)?;
@@ -221,7 +221,7 @@ impl<'a> Chooser<'a> {
     }
 
     /// The shortest sentence of a rule.
-    fn rule_sentence(&self, contexts: &Contexts, place: Place) -> Result<Sought, AllocError> {
+    fn rule_sentence(&self, contexts: &Contexts, place: Place) -> Made<Sought> {
         // the end counts for one token
         if place.length > MOST_TOKENS.saturating_add(1) {
             return Ok(Sought::Long);
@@ -279,7 +279,7 @@ impl<'a> Chooser<'a> {
     }
 
     /// The rules that a cell reduces by at `error`, which no parse looks up.
-    fn at_error(&self) -> Result<Vec<bool>, AllocError> {
+    fn at_error(&self) -> Made<Vec<bool>> {
         let (alloc, tables) = (self.alloc, self.trier.session.tables());
         let mut marks = vec![in alloc; false; self.trier.count()]?;
         for state in 0..tables.automaton().states() {
@@ -309,7 +309,7 @@ impl<'a> Chooser<'a> {
     }
 
     /// The first cells that reduce by each rule that no sentence uses.
-    fn goals_of_rules(&self) -> Result<Lists<Goal>, AllocError> {
+    fn goals_of_rules(&self) -> Made<Lists<Goal>> {
         let mut goals = Lists::new(self.alloc, self.trier.count())?;
         if self.chosen.used.iter().skip(1).all(|used| *used) {
             return Ok(goals);

@@ -2,12 +2,12 @@
 //! to rule 0.
 
 use indexmap::IndexSet;
-use std::alloc::{AllocError, Global};
+use std::alloc::Global;
 use ycounterexample::costs::occurrences;
 use ycounterexample::lists::Lists;
 use ycounterexample::queue::Queue;
 use ycounterexample::search::Finder;
-use yexplain::reads::{body_of, has_item, items_of, left_of};
+use yexplain::reads::{Made, body_of, has_item, items_of, left_of};
 use ylalr::{Automaton, Item};
 use ysymbols::{Grammar, Sym};
 
@@ -59,7 +59,7 @@ fn moved(item: Item) -> Item {
 
 impl Completer {
     /// What finds ends over the stacks of a grammar's parses.
-    pub fn new(alloc: Global, grammar: &Grammar) -> Result<Completer, AllocError> {
+    pub fn new(alloc: Global, grammar: &Grammar) -> Made<Completer> {
         Ok(Completer {
             alloc,
             places: occurrences(alloc, grammar)?,
@@ -83,7 +83,7 @@ impl Completer {
         entries: usize,
         (item, rest): (Item, Item),
         (length, before): (u64, Option<usize>),
-    ) -> Result<(), AllocError> {
+    ) -> Made<()> {
         let (Some(below), Some(left)) = (entries.checked_sub(item.dot), left_of(grammar, item.rule))
         else {
             return Ok(());
@@ -107,7 +107,7 @@ impl Completer {
         finder: &Finder,
         automaton: &Automaton,
         states: &[usize],
-    ) -> Result<Option<Vec<Sym>>, AllocError> {
+    ) -> Made<Option<Vec<Sym>>> {
         self.nodes.clear();
         self.queue = Queue::new(self.alloc);
         self.met = IndexSet::new(self.alloc);
@@ -125,12 +125,7 @@ impl Completer {
     }
 
     /// Puts the rests of the items on top, but those that others there lead to.
-    fn begin(
-        &mut self,
-        finder: &Finder,
-        automaton: &Automaton,
-        states: &[usize],
-    ) -> Result<(), AllocError> {
+    fn begin(&mut self, finder: &Finder, automaton: &Automaton, states: &[usize]) -> Made<()> {
         let entries = states.len().saturating_sub(1);
         let items = items_of(automaton, states.last().copied().unwrap_or(0));
         self.looked = self.looked.saturating_add(items.len());
@@ -150,7 +145,7 @@ impl Completer {
         automaton: &Automaton,
         states: &[usize],
         number: usize,
-    ) -> Result<bool, AllocError> {
+    ) -> Made<bool> {
         let Some(node) = self.nodes.get(number).copied() else {
             return Ok(false);
         };
@@ -170,7 +165,7 @@ impl Completer {
         automaton: &Automaton,
         states: &[usize],
         (number, node): (usize, Node),
-    ) -> Result<(), AllocError> {
+    ) -> Made<()> {
         let Spot { below, left } = node.spot;
         let state = states.get(below).copied().unwrap_or(0);
         let count = self.places.of(left).len();
@@ -189,7 +184,7 @@ impl Completer {
     }
 
     /// The rests up to a node, the last one first.
-    fn rests(&self, number: usize) -> Result<Vec<Item>, AllocError> {
+    fn rests(&self, number: usize) -> Made<Vec<Item>> {
         let (mut rests, mut at) = (Vec::new(self.alloc), Some(number));
         for _ in 0..self.nodes.len() {
             let Some(node) = at.and_then(|number| self.nodes.get(number)) else {
@@ -202,7 +197,7 @@ impl Completer {
     }
 
     /// The symbols of all rests up to a node, the end left out.
-    fn end_by(&self, grammar: &Grammar, number: usize) -> Result<Vec<Sym>, AllocError> {
+    fn end_by(&self, grammar: &Grammar, number: usize) -> Made<Vec<Sym>> {
         let (rests, mut symbols) = (self.rests(number)?, Vec::new(self.alloc));
         for rest in rests.iter().rev() {
             symbols.extend_from_slice(rest_of(grammar, *rest))?;

@@ -1,10 +1,10 @@
 //! The shortest sentence with each rule: the shortest way from the start symbol to its left side,
 //! and the shortest sentence of its body there.
 
-use std::alloc::{AllocError, Global};
+use std::alloc::Global;
 use ycounterexample::queue::Queue;
 use ycounterexample::search::Finder;
-use yexplain::reads::{body_of, left_of, set};
+use yexplain::reads::{Made, body_of, left_of, set};
 use ylalr::Item;
 use ysymbols::{Grammar, Sym};
 
@@ -36,7 +36,7 @@ fn root(grammar: &Grammar) -> Sym {
 
 impl Contexts {
     /// The shortest ways of a grammar.
-    pub fn new(alloc: Global, grammar: &Grammar, finder: &Finder) -> Result<Contexts, AllocError> {
+    pub fn new(alloc: Global, grammar: &Grammar, finder: &Finder) -> Made<Contexts> {
         let first = Item { rule: 0, dot: 0 };
         let mut contexts = Contexts {
             around: vec![in alloc; FAR; grammar.symbols()]?,
@@ -62,13 +62,7 @@ impl Contexts {
     }
 
     /// Notes a way to a symbol, where it is shorter than what was found.
-    fn shorten(
-        &mut self,
-        queue: &mut Queue,
-        symbol: Sym,
-        length: u64,
-        item: Item,
-    ) -> Result<(), AllocError> {
+    fn shorten(&mut self, queue: &mut Queue, symbol: Sym, length: u64, item: Item) -> Made<()> {
         if length >= self.length_around(symbol) {
             return Ok(());
         }
@@ -84,7 +78,7 @@ impl Contexts {
         grammar: &Grammar,
         finder: &Finder,
         left: Sym,
-    ) -> Result<(), AllocError> {
+    ) -> Made<()> {
         for rule in finder.rules(left) {
             self.enter(queue, grammar, finder, *rule)?;
         }
@@ -98,7 +92,7 @@ impl Contexts {
         grammar: &Grammar,
         finder: &Finder,
         rule: usize,
-    ) -> Result<(), AllocError> {
+    ) -> Made<()> {
         let all = self.length(grammar, finder, rule);
         for (dot, symbol) in body_of(grammar, rule).iter().enumerate() {
             if !grammar.is_token(*symbol) {
@@ -117,12 +111,7 @@ impl Contexts {
     }
 
     /// All rules that can be reached, the one with the longest sentence first.
-    pub fn order(
-        &self,
-        alloc: Global,
-        grammar: &Grammar,
-        finder: &Finder,
-    ) -> Result<Vec<Place>, AllocError> {
+    pub fn order(&self, alloc: Global, grammar: &Grammar, finder: &Finder) -> Made<Vec<Place>> {
         let mut places = Vec::new(alloc);
         for rule in 1..grammar.rules() {
             let length = self.length(grammar, finder, rule);
@@ -135,7 +124,7 @@ impl Contexts {
     }
 
     /// The items on the way to a symbol, the nearest first.
-    fn way(&self, alloc: Global, grammar: &Grammar, symbol: Sym) -> Result<Vec<Item>, AllocError> {
+    fn way(&self, alloc: Global, grammar: &Grammar, symbol: Sym) -> Made<Vec<Item>> {
         let (mut way, mut at, root) = (Vec::new(alloc), symbol, root(grammar));
         for _ in 0..grammar.symbols() {
             if at == root {
@@ -151,12 +140,7 @@ impl Contexts {
     }
 
     /// The symbols of the shortest sentential form with the body of a rule, the end left out.
-    pub fn form(
-        &self,
-        alloc: Global,
-        grammar: &Grammar,
-        rule: usize,
-    ) -> Result<Vec<Sym>, AllocError> {
+    pub fn form(&self, alloc: Global, grammar: &Grammar, rule: usize) -> Made<Vec<Sym>> {
         let way = self.way(alloc, grammar, left_of(grammar, rule).unwrap_or(0))?;
         let mut form = Vec::new(alloc);
         for item in way.iter().rev() {
@@ -171,7 +155,7 @@ impl Contexts {
 }
 
 /// Adds what stands behind the symbols after the dots.
-fn push_rests(form: &mut Vec<Sym>, grammar: &Grammar, way: &[Item]) -> Result<(), AllocError> {
+fn push_rests(form: &mut Vec<Sym>, grammar: &Grammar, way: &[Item]) -> Made<()> {
     for item in way {
         let body = body_of(grammar, item.rule);
         form.extend_from_slice(body.get(item.dot.saturating_add(1)..).unwrap_or(&[]))?;

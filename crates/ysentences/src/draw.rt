@@ -2,9 +2,10 @@
 
 use crate::numbers::Numbers;
 use crate::seek::MOST_TOKENS;
-use std::alloc::{AllocError, Global};
+use std::alloc::Global;
+use ycounterexample::costs::push_back;
 use ycounterexample::search::Finder;
-use yexplain::reads::body_of;
+use yexplain::reads::{Made, body_of};
 use ylalr::Automaton;
 use ysymbols::{Grammar, Sym};
 
@@ -28,14 +29,6 @@ struct Drawing {
     most: u64,
 }
 
-/// Adds symbols, the first of them last.
-fn push_back(open: &mut Vec<Sym>, form: &[Sym]) -> Result<(), AllocError> {
-    for symbol in form.iter().rev() {
-        open.push(*symbol)?;
-    }
-    Ok(())
-}
-
 impl Drawing {
     /// How many tokens there are at least once a rule is taken for its left side.
     fn least_with(&self, grammar: &Grammar, finder: &Finder, left: Sym, rule: usize) -> u64 {
@@ -53,7 +46,7 @@ impl Drawing {
         finder: &Finder,
         left: Sym,
         longer: bool,
-    ) -> Result<Vec<usize>, AllocError> {
+    ) -> Made<Vec<usize>> {
         let mut rules = Vec::new(self.alloc);
         for rule in finder.rules(left) {
             let least = self.least_with(grammar, finder, left, *rule);
@@ -71,7 +64,7 @@ impl Drawing {
         finder: &Finder,
         numbers: &mut Numbers,
         left: Sym,
-    ) -> Result<Option<usize>, AllocError> {
+    ) -> Made<Option<usize>> {
         let is_short = self.least.saturating_mul(2) < self.most;
         if is_short && numbers.below(GROWING) > 0 {
             let rules = self.rules(grammar, finder, left, true)?;
@@ -84,12 +77,7 @@ impl Drawing {
     }
 
     /// Takes the next symbol, and says whether there was one.
-    fn take(
-        &mut self,
-        grammar: &Grammar,
-        finder: &Finder,
-        numbers: &mut Numbers,
-    ) -> Result<bool, AllocError> {
+    fn take(&mut self, grammar: &Grammar, finder: &Finder, numbers: &mut Numbers) -> Made<bool> {
         let Some(symbol) = self.open.pop() else {
             return Ok(false);
         };
@@ -111,12 +99,7 @@ impl Drawing {
     }
 
     /// Takes symbols as long as there are some and a rule may be taken.
-    fn take_all(
-        &mut self,
-        grammar: &Grammar,
-        finder: &Finder,
-        numbers: &mut Numbers,
-    ) -> Result<(), AllocError> {
+    fn take_all(&mut self, grammar: &Grammar, finder: &Finder, numbers: &mut Numbers) -> Made<()> {
         let most = usize::try_from(self.most).unwrap_or(0);
         for _ in 0..most.saturating_mul(20).saturating_add(MOST_TAKEN) {
             if !self.take(grammar, finder, numbers)? {
@@ -127,7 +110,7 @@ impl Drawing {
     }
 
     /// Adds the shortest sentence of the symbols that are still to come.
-    fn end(&mut self, finder: &Finder, automaton: &Automaton) -> Result<bool, AllocError> {
+    fn end(&mut self, finder: &Finder, automaton: &Automaton) -> Made<bool> {
         self.open.reverse();
         match finder.sentence(automaton, &self.open)? {
             Some(rest) => {
@@ -147,7 +130,7 @@ pub fn draw(
     automaton: &Automaton,
     numbers: &mut Numbers,
     most: u64,
-) -> Result<Option<Vec<Sym>>, AllocError> {
+) -> Made<Option<Vec<Sym>>> {
     let grammar = automaton.grammar();
     let form = body_of(grammar, 0).get(..1).unwrap_or(&[]);
     let least = finder.length(form);

@@ -1,7 +1,8 @@
 //! Lists of tokens that are near to sentences: one token is left out, changed or put in.
 
 use indexmap::IndexSet;
-use std::alloc::{AllocError, Global};
+use std::alloc::Global;
+use yexplain::reads::Made;
 use yinput::grammars::used_in;
 use ylalr::ERROR;
 use ylex::writer::Writer;
@@ -51,11 +52,7 @@ fn is_given(writer: Option<&Writer>, token: Sym) -> bool {
 
 impl Near {
     /// What changes sentences of a grammar; with a writer, by tokens that a text can have.
-    pub fn new(
-        alloc: Global,
-        grammar: &Grammar,
-        writer: Option<&Writer>,
-    ) -> Result<Near, AllocError> {
+    pub fn new(alloc: Global, grammar: &Grammar, writer: Option<&Writer>) -> Made<Near> {
         let (mut inputs, marks) = (Vec::new(alloc), used_in(alloc, grammar)?);
         for (symbol, used) in marks.iter().enumerate() {
             let is_input = *used && grammar.is_token(symbol) && symbol > ERROR;
@@ -72,7 +69,7 @@ impl Near {
     }
 
     /// Notes a list, and says whether it is met for the first time.
-    pub fn meet(&mut self, tokens: &[Sym]) -> Result<bool, AllocError> {
+    pub fn meet(&mut self, tokens: &[Sym]) -> Made<bool> {
         let mut list = Vec::new(self.alloc);
         list.extend_from_slice(tokens)?;
         Ok(self.met.insert(list)?)
@@ -92,7 +89,7 @@ impl Near {
     }
 
     /// The changes of a sentence.
-    pub fn changes(&mut self, tokens: &[Sym]) -> Result<Vec<Change>, AllocError> {
+    pub fn changes(&mut self, tokens: &[Sym]) -> Made<Vec<Change>> {
         let mut changes = Vec::new(self.alloc);
         let count = tokens.len();
         for part in 0..MOST_PLACES {
@@ -106,11 +103,7 @@ impl Near {
     }
 
     /// Adds the changes in which a token becomes another.
-    fn push_replaced(
-        &mut self,
-        changes: &mut Vec<Change>,
-        tokens: &[Sym],
-    ) -> Result<(), AllocError> {
+    fn push_replaced(&mut self, changes: &mut Vec<Change>, tokens: &[Sym]) -> Made<()> {
         for part in 0..MOST_PLACES {
             if let Some(place) = place_in(tokens.len(), part) {
                 if let Some(other) = self.other(tokens.get(place).copied()) {
@@ -122,7 +115,7 @@ impl Near {
     }
 
     /// Adds the changes in which a token is put in at one of so many places.
-    fn push_put_in(&mut self, changes: &mut Vec<Change>, count: usize) -> Result<(), AllocError> {
+    fn push_put_in(&mut self, changes: &mut Vec<Change>, count: usize) -> Made<()> {
         for part in 0..MOST_PLACES {
             if let Some(place) = place_in(count, part) {
                 if let Some(other) = self.other(None) {
@@ -136,7 +129,7 @@ impl Near {
 
 impl Change {
     /// What becomes of a sentence.
-    pub fn made(self, alloc: Global, tokens: &[Sym]) -> Result<Vec<Sym>, AllocError> {
+    pub fn made(self, alloc: Global, tokens: &[Sym]) -> Made<Vec<Sym>> {
         let (place, token, taken) = match self {
             Change::LeaveOut(place) => (place, None, 1),
             Change::Replace(place, token) => (place, Some(token), 1),

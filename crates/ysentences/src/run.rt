@@ -6,14 +6,14 @@ use crate::near::Near;
 use crate::numbers::Numbers;
 use crate::seek::MOST_TOKENS;
 use crate::sheet::Sheet;
-use std::alloc::{AllocError, Global};
+use std::alloc::Global;
 use std::io::{self, Write};
 use std::rt::Files;
 use ycounterexample::search::Finder;
 use ycounterexample::trial::empty_session;
 use ycover::cells::Cells;
 use ycover::elements::{Elements, Kind};
-use yexplain::reads::{grammar_of, set};
+use yexplain::reads::{Made, grammar_of, set};
 use yfaults::opening::Opened;
 use yinput::language::{Language, LanguageFiles};
 use ylex::writer::Writer;
@@ -66,7 +66,7 @@ impl Asked<'_> {
         alloc: Global,
         tables: &Tables,
         writer: Option<&Writer>,
-    ) -> Result<Option<Near>, AllocError> {
+    ) -> Made<Option<Near>> {
         if self.near {
             Near::new(alloc, grammar_of(tables), writer).map(Some)
         } else {
@@ -112,7 +112,7 @@ fn put_kept<W: Write, F: Files + AllocGlobal + Clone + Drop>(
 }
 
 /// The elements that aren't marked yet, which become so.
-fn new_in(alloc: Global, seen: &mut [bool], elements: &[usize]) -> Result<Vec<usize>, AllocError> {
+fn new_in(alloc: Global, seen: &mut [bool], elements: &[usize]) -> Made<Vec<usize>> {
     let mut new = Vec::new(alloc);
     for element in elements {
         if !seen.get(*element).copied().unwrap_or(true) {

@@ -6,7 +6,7 @@ use std::alloc::{AllocError, Global};
 use std::io;
 use ycounterexample::others::Others;
 use ycounterexample::search::{Finder, Found, Target};
-use yexplain::reads::{action_of, goto_of};
+use yexplain::reads::{Made, action_of, goto_of};
 use ylalr::{Automaton, END};
 use ysymbols::Sym;
 use ytables::{Action, Tables};
@@ -73,11 +73,7 @@ impl Goal {
 }
 
 /// The states over the symbols of a way, the first state of all at the bottom.
-fn states_over(
-    alloc: Global,
-    automaton: &Automaton,
-    way: &[Sym],
-) -> Result<Vec<usize>, AllocError> {
+fn states_over(alloc: Global, automaton: &Automaton, way: &[Sym]) -> Made<Vec<usize>> {
     let (mut states, mut state) = (Vec::new(alloc), 0);
     states.push(state)?;
     for symbol in way {
@@ -89,7 +85,7 @@ fn states_over(
 
 impl Seeker {
     /// What seeks sentences by these tables.
-    pub fn new(alloc: Global, tables: &Tables) -> Result<Seeker, AllocError> {
+    pub fn new(alloc: Global, tables: &Tables) -> Made<Seeker> {
         let automaton = tables.automaton();
         Ok(Seeker {
             alloc,
@@ -99,7 +95,7 @@ impl Seeker {
     }
 
     /// The shortest sentence of a form.
-    pub fn sentence(&self, tables: &Tables, form: &[Sym]) -> Result<Sought, AllocError> {
+    pub fn sentence(&self, tables: &Tables, form: &[Sym]) -> Made<Sought> {
         if self.finder.length(form) > MOST_TOKENS {
             return Ok(Sought::Long);
         }
@@ -110,12 +106,7 @@ impl Seeker {
     }
 
     /// The sentence with what stands on a stack, by the form that leads to its states.
-    fn completed(
-        &mut self,
-        tables: &Tables,
-        form: Vec<Sym>,
-        states: &[usize],
-    ) -> Result<Sought, AllocError> {
+    fn completed(&mut self, tables: &Tables, form: Vec<Sym>, states: &[usize]) -> Made<Sought> {
         let (mut form, automaton) = (form, tables.automaton());
         let end = self.completer.complete(&self.finder, automaton, states)?;
         self.finder.spend(self.completer.looked());
@@ -143,7 +134,7 @@ impl Seeker {
     }
 
     /// The symbols of a shortest way to a goal, unless the search takes too long.
-    fn way(&mut self, tables: &Tables, goal: Goal) -> Result<Option<Vec<Sym>>, AllocError> {
+    fn way(&mut self, tables: &Tables, goal: Goal) -> Made<Option<Vec<Sym>>> {
         match self
             .finder
             .shortest(tables.automaton(), goal.target(tables))?
@@ -154,18 +145,13 @@ impl Seeker {
     }
 
     /// The sentence over a way, whatever comes after it.
-    fn by_state(&mut self, tables: &Tables, way: Vec<Sym>) -> Result<Sought, AllocError> {
+    fn by_state(&mut self, tables: &Tables, way: Vec<Sym>) -> Made<Sought> {
         let states = states_over(self.alloc, tables.automaton(), &way)?;
         self.completed(tables, way, &states)
     }
 
     /// The sentence over a way and a token that is shifted after it.
-    fn by_shift(
-        &mut self,
-        tables: &Tables,
-        way: Vec<Sym>,
-        token: Sym,
-    ) -> Result<Sought, AllocError> {
+    fn by_shift(&mut self, tables: &Tables, way: Vec<Sym>, token: Sym) -> Made<Sought> {
         let mut way = way;
         way.push(token)?;
         self.by_state(tables, way)
@@ -211,7 +197,7 @@ impl Seeker {
     }
 
     /// Further lists for a goal.
-    pub fn others(&mut self, trier: &Trier<'_>, goal: Goal) -> Result<Others, AllocError> {
+    pub fn others(&mut self, trier: &Trier<'_>, goal: Goal) -> Made<Others> {
         let tables = trier.session.tables();
         let target = goal.target(tables);
         let (alloc, automaton) = (self.alloc, tables.automaton());

@@ -211,8 +211,7 @@ impl<W: Write, F: Files + AllocGlobal + Clone + Drop> Sheet<'_, W, F> {
 
     /// The verdict on a list.
     fn verdict(&self, tokens: &[Sym]) -> io::Result<Verdict> {
-        let mut symbols = Vec::with_capacity(self.alloc, tokens.len())?;
-        symbols.extend_from_slice(tokens)?;
+        let symbols = Vec::from_slice(self.alloc, tokens)?;
         verdict_on(self.alloc, self.elements.tables, &Tokens { symbols })
     }
 

@@ -11,7 +11,7 @@ use yexplain::reads::grammar_of;
 use yparse::Session;
 use yparse::machine::{StepFault, StepKind};
 use ysymbols::Sym;
-use yview::reading::stack_state;
+use yview::reading::states_of_stack;
 
 /// The most steps of a parse over a list.
 const MOST_STEPS: usize = 100_000;
@@ -231,7 +231,7 @@ impl<'a> Trier<'a> {
         let mut row = Row::new(tokens.len(), self.rules.rounds.len());
         for _ in 0..MOST_STEPS {
             if self.session.view().rest_len() == 0 {
-                return Ok(Some(states_of(self.alloc, self.session)?));
+                return Ok(Some(states_of_stack(self.alloc, self.session)?));
             }
             if !self.goes_on(&mut row)? {
                 break;
@@ -250,14 +250,4 @@ impl<'a> Trier<'a> {
             Err(_) => Ok(false),
         }
     }
-}
-
-/// The states of a session's stack, the first state of all at the bottom.
-fn states_of(alloc: Global, session: &Session) -> Result<Vec<usize>, AllocError> {
-    let mut states = Vec::new(alloc);
-    states.push(0)?;
-    for index in 0..session.view().stack_len() {
-        states.push(stack_state(session, index))?;
-    }
-    Ok(states)
 }

@@ -1,7 +1,7 @@
 //! The reductions that bison makes before it sees an error, by which it lists other tokens.
 
-use std::alloc::{AllocError, Global};
-use yexplain::reads::{action_of, grammar_of};
+use std::alloc::Global;
+use yexplain::reads::{Made, action_of, grammar_of};
 use ylalr::{ERROR, token_count};
 use ytables::{Action, Tables};
 
@@ -20,7 +20,7 @@ fn most_usual(counts: &[usize]) -> usize {
 
 /// The rule of each state's reduction that is made at most tokens; 0 where there is none, or where
 /// the state shifts `error` (Bison manual, "Default Reductions").
-pub fn default_rules(alloc: Global, tables: &Tables) -> Result<Vec<usize>, AllocError> {
+pub fn default_rules(alloc: Global, tables: &Tables) -> Made<Vec<usize>> {
     let grammar = grammar_of(tables);
     let mut rules = Vec::new(alloc);
     let mut counts = vec![in alloc; 0; grammar.rules()]?;

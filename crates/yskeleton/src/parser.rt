@@ -119,15 +119,20 @@ impl Skeleton<'_> {
         Ok(())
     }
 
-    /// Writes what bison's header has.
+    /// Writes what a header has.
     fn put_declarations(&self, out: &mut Text<'_>) -> io::Result<()> {
-        self.put_debug(out)?;
+        let is_bison = self.style.is_bison();
+        if is_bison {
+            self.put_debug(out)?;
+        }
         self.put_all(out, Target::Requires)?;
         self.put_tokens(out)?;
         self.put_values(out)?;
         self.put_places(out)?;
         self.put_shared(out)?;
-        self.put_prototype(out)?;
+        if is_bison {
+            self.put_prototype(out)?;
+        }
         self.put_all(out, Target::Provides)
     }
 
@@ -302,16 +307,6 @@ impl<'a> Skeleton<'a> {
         out.add(b"_INCLUDED\n")
     }
 
-    /// Writes what byacc's header has.
-    fn put_byacc_header(&self, out: &mut Text<'_>) -> io::Result<()> {
-        self.put_all(out, Target::Requires)?;
-        self.put_tokens(out)?;
-        self.put_values(out)?;
-        self.put_places(out)?;
-        self.put_shared(out)?;
-        self.put_all(out, Target::Provides)
-    }
-
     /// The text of the header.
     pub fn header(&self, alloc: Global) -> io::Result<Text<'a>> {
         let wishes = self.style.wishes;
@@ -320,11 +315,7 @@ impl<'a> Skeleton<'a> {
         self.put_guard(&mut out)?;
         out.add(b"#define ")?;
         self.put_guard(&mut out)?;
-        if self.style.is_bison() {
-            self.put_declarations(&mut out)?;
-        } else {
-            self.put_byacc_header(&mut out)?;
-        }
+        self.put_declarations(&mut out)?;
         out.add(b"\n#endif\n")?;
         Ok(out)
     }

@@ -6,9 +6,10 @@ use crate::scene::Scene;
 use crate::spoken::Speech;
 use crate::style::{Mode, Style, Wishes};
 use crate::text::Text;
-use std::alloc::{AllocError, Global};
+use std::alloc::Global;
 use std::io::{self, Write};
 use ycode::Code;
+use yexplain::reads::Made;
 use yparts::parts::{Parts, Piece, Target};
 use ysymbols::{Grammar, Sym};
 
@@ -49,7 +50,7 @@ pub fn style_of<'a>(
     parts: &Parts<'a>,
     wishes: Wishes,
     prefix: Option<&str>,
-) -> Result<Style<'a>, AllocError> {
+) -> Made<Style<'a>> {
     let dialect = dialect_of(wishes.mode, parts.options.locations);
     let actions = parts.actions.iter();
     let uses_places = dialect.places

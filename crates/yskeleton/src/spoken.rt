@@ -3,8 +3,9 @@
 
 use crate::arrays::put_list;
 use crate::text::Text;
-use std::alloc::{AllocError, Global};
+use std::alloc::Global;
 use std::io::{self, Write};
+use yexplain::reads::Made;
 
 /// The most bytes of a text in one piece: so no string is longer than C90 promises to take.
 const MOST_BYTES: usize = 100;
@@ -37,7 +38,7 @@ fn put_byte<W: Write>(out: &mut W, byte: u8) -> io::Result<()> {
 
 impl Speech {
     /// No message yet, for so many states.
-    pub fn new(alloc: Global, states: usize) -> Result<Speech, AllocError> {
+    pub fn new(alloc: Global, states: usize) -> Made<Speech> {
         Ok(Speech {
             items: Vec::from_slice(alloc, b"  { 0, -2 },\n")?,
             count: 1,

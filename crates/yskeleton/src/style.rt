@@ -1,8 +1,10 @@
 //! How a parser looks: the order of its parts, its names, and what it can do.
 
-use std::alloc::{AllocError, Global};
+use std::alloc::Global;
+use yexplain::reads::Made;
 use yparts::options::{Errors, Options, Purity};
 use yparts::parts::{Deed, Parts};
+use ysymbols::let_go;
 
 /// Whose order and names a parser has.
 #[derive(Clone, Copy, Debug, PartialEq, Eq)]
@@ -55,22 +57,14 @@ pub struct Style<'a> {
 impl Drop for Style<'_> {
     // A call in each owner, which keeps their proofs short.
     fn drop(self) {
-        let Style {
-            wishes: _,
-            options: _,
-            names: _,
-            types: _,
-            macros: _,
-            has_tags: _,
-            locations: _,
-            destroys: _,
-            prints: _,
-        } = self;
+        let_go!(self: Style {
+            wishes, options, names, types, macros, has_tags, locations, destroys, prints
+        });
     }
 }
 
 /// What macros begin with where types begin so: capitals, and lines below for what is no letter.
-fn capitals(alloc: Global, prefix: &[u8]) -> Result<Vec<u8>, AllocError> {
+fn capitals(alloc: Global, prefix: &[u8]) -> Made<Vec<u8>> {
     let mut macros = Vec::from_slice(alloc, prefix)?;
     for b in macros.iter_mut() {
         *b = b.to_ascii_uppercase();
@@ -79,11 +73,7 @@ fn capitals(alloc: Global, prefix: &[u8]) -> Result<Vec<u8>, AllocError> {
 }
 
 /// What names begin with: what words ask for, or else what the file does.
-fn prefix_of(
-    alloc: Global,
-    options: &Options<'_>,
-    prefix: Option<&str>,
-) -> Result<Vec<u8>, AllocError> {
+fn prefix_of(alloc: Global, options: &Options<'_>, prefix: Option<&str>) -> Made<Vec<u8>> {
     match prefix {
         Some(prefix) => Vec::from_slice(alloc, prefix.as_bytes()),
         None => {
@@ -107,7 +97,7 @@ impl<'a> Style<'a> {
         wishes: Wishes,
         prefix: Option<&str>,
         uses_places: bool,
-    ) -> Result<Style<'a>, AllocError> {
+    ) -> Made<Style<'a>> {
         let options = parts.options;
         let types = options.api_prefix.unwrap_or(b"yy");
         Ok(Style {

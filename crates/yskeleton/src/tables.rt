@@ -3,7 +3,7 @@
 use crate::arrays::{put_array, put_list, type_of};
 use crate::declared::is_c_name;
 use crate::skeleton::Skeleton;
-use crate::text::Text;
+use crate::text::{Text, put_quoted};
 use std::alloc::{AllocError, Global};
 use std::io::{self, Write};
 use yexplain::reads::{body_of, left_of, name_of};
@@ -22,17 +22,6 @@ pub const READING: &str = r##"
   ((n) = yygrow[state] + (left), \
    (n) = yygcheck[n] == (left) ? yygvalue[n] : yytarget[left])
 "##;
-
-/// Writes bytes within a string of C.
-fn put_quoted<W: Write>(out: &mut W, name: &[u8]) -> io::Result<()> {
-    for byte in name {
-        if *byte == b'\\' || *byte == b'"' {
-            out.write_all(b"\\")?;
-        }
-        out.write_all(&[*byte])?;
-    }
-    Ok(())
-}
 
 /// Writes a rule within a string of C.
 fn put_rule<W: Write>(out: &mut W, grammar: &Grammar, rule: usize) -> io::Result<()> {

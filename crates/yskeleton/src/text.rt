@@ -3,22 +3,17 @@
 use std::alloc::Global;
 use std::io::{self, Write};
 use yexplain::lines::newlines;
+use ysymbols::let_go;
 
-/// The path of a file as it stands in a string of C.
-#[derive(Clone, Copy)]
-pub struct Path<'a>(pub &'a str);
-
-impl Path<'_> {
-    /// Writes it.
-    fn put<W: Write>(self, out: &mut W) -> io::Result<()> {
-        for byte in self.0.as_bytes() {
-            if *byte == b'\\' || *byte == b'"' {
-                out.write_all(b"\\")?;
-            }
-            out.write_all(&[*byte])?;
+/// Writes bytes within a string of C.
+pub fn put_quoted<W: Write>(out: &mut W, bytes: &[u8]) -> io::Result<()> {
+    for byte in bytes {
+        if *byte == b'\\' || *byte == b'"' {
+            out.write_all(b"\\")?;
         }
-        Ok(())
+        out.write_all(&[*byte])?;
     }
+    Ok(())
 }
 
 /// How many newlines come after a place.
@@ -33,20 +28,14 @@ pub struct Text<'a> {
     counted: usize,
     /// How many there are up to there.
     lines: usize,
-    path: Path<'a>,
+    path: &'a str,
     told: bool,
 }
 
 impl Drop for Text<'_> {
     // A call in each owner, which keeps their proofs short.
     fn drop(self) {
-        let Text {
-            bytes: _,
-            counted: _,
-            lines: _,
-            path: _,
-            told: _,
-        } = self;
+        let_go!(self: Text { bytes, counted, lines, path, told });
     }
 }
 
@@ -58,7 +47,7 @@ impl<'a> Text<'a> {
             bytes: Vec::new(alloc),
             counted: 0,
             lines: 0,
-            path: Path(path),
+            path,
             told,
         }
     }
@@ -82,16 +71,16 @@ impl<'a> Text<'a> {
     }
 
     /// Says that the next line is this one of a file.
-    fn add_line(&mut self, line: usize, path: Path<'_>) -> io::Result<()> {
+    fn add_line(&mut self, line: usize, path: &str) -> io::Result<()> {
         write!(self.bytes, "#line {line} \"")?;
-        path.put(&mut self.bytes)?;
+        put_quoted(&mut self.bytes, path.as_bytes())?;
         self.add(b"\"\n")
     }
 
     /// Says that what follows begins on this line of another file.
     pub fn from(&mut self, line: usize, path: &str) -> io::Result<()> {
         if self.told {
-            self.add_line(line, Path(path))?;
+            self.add_line(line, path)?;
         }
         Ok(())
     }

@@ -2,12 +2,12 @@
 
 use crate::page::Page;
 use crate::reading::{MOST_NODES, child_of, name_of, tree_at, upcoming_token};
-use std::alloc::{AllocError, Global};
+use std::alloc::Global;
 use std::io::Write;
-use yexplain::reads::{grammar_of, left_of};
+use yexplain::reads::{Made, grammar_of, left_of};
 use ylalr::{END, ERROR};
 use yparse::{Session, TreeNode, TreeView};
-use ysymbols::{Grammar, Sym};
+use ysymbols::{Grammar, Sym, let_go};
 
 /// What is written for a form without a symbol.
 const EMPTY: &str = " (empty)";
@@ -18,6 +18,7 @@ pub const SOME_FORMS: usize = 100;
 /// A form of the derivation: trees, of which the last may be replaced by its children, and then
 /// tokens, the last one first.
 struct Form<'a> {
+    grammar: &'a Grammar,
     trees: Vec<TreeView<'a>>,
     tokens: Vec<Sym>,
 }
@@ -25,10 +26,7 @@ struct Form<'a> {
 impl Drop for Form<'_> {
     // A call in each owner, which keeps their proofs short.
     fn drop(self) {
-        let Form {
-            trees: _,
-            tokens: _,
-        } = self;
+        let_go!(self: Form { grammar, trees, tokens });
     }
 }
 
@@ -43,9 +41,10 @@ fn symbol_of(grammar: &Grammar, node: TreeNode) -> Sym {
 
 impl<'a> Form<'a> {
     /// The form of the configuration now.
-    fn now(alloc: Global, session: &'a Session) -> Result<Form<'a>, AllocError> {
+    fn now(alloc: Global, session: &'a Session) -> Made<Form<'a>> {
         let view = session.view();
         Ok(Form {
+            grammar: grammar_of(session.tables()),
             trees: (0..view.stack_len())
                 .filter_map(|index| tree_at(session, index))
                 .collect(alloc)?,
@@ -57,7 +56,7 @@ impl<'a> Form<'a> {
     }
 
     /// The children of a tree come in its place.
-    fn open(&mut self, tree: &TreeView<'a>) -> Result<(), AllocError> {
+    fn open(&mut self, tree: &TreeView<'a>) -> Made<()> {
         for index in 0..tree.children() {
             if let Some(child) = child_of(tree, index) {
                 self.trees.push(child)?;
@@ -68,7 +67,8 @@ impl<'a> Form<'a> {
 
     /// Takes the last tree: a rule is replaced by its body, which makes another form, and anything
     /// else moves to the tokens. `None` where there are no more trees.
-    fn expand(&mut self, grammar: &Grammar) -> Result<Option<bool>, AllocError> {
+    fn expand(&mut self) -> Made<Option<bool>> {
+        let grammar = self.grammar;
         let Some(tree) = self.trees.pop() else {
             return Ok(None);
         };
@@ -85,7 +85,8 @@ impl<'a> Form<'a> {
     }
 
     /// How many bytes it takes.
-    fn width(&self, grammar: &Grammar) -> u64 {
+    fn width(&self) -> u64 {
+        let grammar = self.grammar;
         let roots = self
             .trees
             .iter()
@@ -98,7 +99,8 @@ impl<'a> Form<'a> {
     }
 
     /// Writes the form.
-    fn put<W: Write>(&self, page: &mut Page<W>, grammar: &Grammar) {
+    fn put<W: Write>(&self, page: &mut Page<W>) {
+        let grammar = self.grammar;
         if self.trees.is_empty() && self.tokens.is_empty() {
             page.line(EMPTY);
             return;
@@ -140,10 +142,10 @@ fn line_of(width: u64) -> u64 {
 }
 
 /// How many bytes all forms take.
-pub fn size_of_derivation(alloc: Global, session: &Session) -> Result<u64, AllocError> {
-    let grammar = grammar_of(session.tables());
+pub fn size_of_derivation(alloc: Global, session: &Session) -> Made<u64> {
     let mut form = Form::now(alloc, session)?;
-    let mut width = form.width(grammar);
+    let grammar = form.grammar;
+    let mut width = form.width();
     let mut size = line_of(width);
     for _ in 0..=MOST_NODES {
         let Some(tree) = form.trees.pop() else {
@@ -161,18 +163,13 @@ pub fn size_of_derivation(alloc: Global, session: &Session) -> Result<u64, Alloc
 }
 
 /// The further forms, at most so many, up to a fault of the page.
-fn put_forms<W: Write>(
-    page: &mut Page<W>,
-    grammar: &Grammar,
-    form: &mut Form<'_>,
-    most: usize,
-) -> Result<(), AllocError> {
+fn put_forms<W: Write>(page: &mut Page<W>, form: &mut Form<'_>, most: usize) -> Made<()> {
     let mut written = 1usize;
     for _ in 0..=MOST_NODES {
         if page.checked().is_err() {
             break;
         }
-        match form.expand(grammar)? {
+        match form.expand()? {
             None => break,
             Some(false) => {}
             Some(true) if written >= most => {
@@ -180,7 +177,7 @@ fn put_forms<W: Write>(
                 break;
             }
             Some(true) => {
-                form.put(page, grammar);
+                form.put(page);
                 written = written.saturating_add(1);
             }
         }
@@ -194,9 +191,8 @@ pub fn put_derivation<W: Write>(
     page: &mut Page<W>,
     session: &Session,
     most: usize,
-) -> Result<(), AllocError> {
-    let grammar = grammar_of(session.tables());
+) -> Made<()> {
     let mut form = Form::now(alloc, session)?;
-    form.put(page, grammar);
-    put_forms(page, grammar, &mut form, most)
+    form.put(page);
+    put_forms(page, &mut form, most)
 }

@@ -2,9 +2,9 @@
 
 use crate::page::Page;
 use crate::reading::{MOST_NODES, child_of, name_of, tree_at};
-use std::alloc::{AllocError, Global};
+use std::alloc::Global;
 use std::io::Write;
-use yexplain::reads::{grammar_of, left_of};
+use yexplain::reads::{Made, grammar_of, left_of};
 use ylalr::END;
 use yparse::{Session, TreeNode, TreeView};
 use ysymbols::Grammar;
@@ -46,7 +46,7 @@ fn put_line<'a, W: Write>(
     grammar: &Grammar,
     open: &mut Vec<Open<'a>>,
     next: Open<'a>,
-) -> Result<(), AllocError> {
+) -> Made<()> {
     let (level, tree) = next;
     put_indent(page, level);
     put_root(page, grammar, tree.node());
@@ -65,7 +65,7 @@ fn put_open<'a, W: Write>(
     grammar: &Grammar,
     open: &mut Vec<Open<'a>>,
     most: usize,
-) -> Result<(), AllocError> {
+) -> Made<()> {
     for count in 0..MOST_NODES {
         let Some(next) = open.pop() else {
             break;
@@ -85,7 +85,7 @@ pub fn put_trees<W: Write>(
     page: &mut Page<W>,
     session: &Session,
     most: usize,
-) -> Result<(), AllocError> {
+) -> Made<()> {
     let mut open = Vec::new(alloc);
     for index in (0..session.view().stack_len()).rev() {
         if let Some(tree) = tree_at(session, index) {
@@ -105,7 +105,7 @@ pub fn put_tree<W: Write>(
     session: &Session,
     entry: usize,
     most: usize,
-) -> Result<(), AllocError> {
+) -> Made<()> {
     let index = entry.checked_sub(1);
     let Some(tree) = index.and_then(|index| tree_at(session, index)) else {
         let entries = session.view().stack_len();
