@@ -3,8 +3,8 @@
 use crate::ending::Refused;
 use crate::forms::Form;
 use crate::values::{
-    drawn_in, grammar_in, input_in, is_given, kind_in, language_in, messages_in, most_of,
-    number_of, page_from, value_of,
+    NO_FOLDER, drawn_in, grammar_in, input_in, is_given, kind_in, language_in, messages_in,
+    most_of, number_of, page_from, value_of,
 };
 use crate::{check, conflicts, cover, table};
 use clap::ArgMatches;
@@ -19,9 +19,6 @@ use ypage::page;
 use ypage::walk::Part;
 use yrules::run as rules;
 use ysentences::run as sentences;
-
-/// What is said of a folder without a name.
-pub const NO_FOLDER: &str = "--save wants the name of a folder";
 
 /// What words ask for.
 #[derive(Clone, Copy)]

@@ -8,7 +8,6 @@ use ydiagnostics::checking::{self, run_checking};
 use ydiagnostics::format::Format;
 use ydiagnostics::messaged::Messaged;
 use yfiles::reading::Limited;
-use yinput::fault::Fault;
 use yinput::language::{Input, Language};
 use yinput::verdict::{Verdict, verdict_on};
 use yinput::verdict_text::{put_choice, put_plain_choice};
@@ -68,21 +67,6 @@ impl Asked<'_> {
             put_told(alloc, out, told, path, (input, &verdict))
         }
     }
-
-    /// Writes why an input has no verdict, and gives its exit status.
-    fn put_fault<F: Files + AllocGlobal, W: Write>(
-        self,
-        rt: &F,
-        out: &mut W,
-        language: &Language,
-        fault: &Fault,
-    ) -> io::Result<u8> {
-        if self.plain {
-            fault.put_plain(out)
-        } else {
-            fault.put(rt, out, self.inputs.files.grammar, &language.opened)
-        }
-    }
 }
 
 impl<F: Files + AllocGlobal, R: Read, E: Write> Given<'_, F, R, E> {
@@ -97,7 +81,13 @@ impl<F: Files + AllocGlobal, R: Read, E: Write> Given<'_, F, R, E> {
         let most = asked.inputs.most;
         match self.read_input(&told.language, Limited { path, most })? {
             Ok(input) => asked.put_verdict(self.rt.alloc(), out, told, path, &input),
-            Err(fault) => asked.put_fault(self.rt, out, &told.language, &fault),
+            Err(fault) => {
+                if asked.plain {
+                    return fault.put_plain(out);
+                }
+                let grammar = asked.inputs.files.grammar;
+                fault.put(self.rt, out, grammar, &told.language.opened)
+            }
         }
     }
 

@@ -1,7 +1,7 @@
 //! `ydebug conflicts`: the report on conflicts, and whether they are accepted.
 
-use crate::asked::NO_FOLDER;
 use crate::given::Given;
+use crate::values::NO_FOLDER;
 use std::io::{self, Read, Write};
 use std::rt::Files;
 use yaccepted::expected::{Counts, numbers_in};

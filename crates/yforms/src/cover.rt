@@ -76,28 +76,7 @@ fn put_uses<W: Write>(
 }
 
 impl<F: Files + AllocGlobal, R: Read, E: Write> Given<'_, F, R, E> {
-    /// Reads an input that is to be walked. Where there is none, or it isn't accepted, that is
-    /// written.
-    fn read_told<W: Write>(
-        &mut self,
-        asked: Asked<'_>,
-        language: &Language,
-        path: &str,
-        out: &mut W,
-    ) -> io::Result<Result<Input, u8>> {
-        let most = asked.most;
-        match self.read_input(language, Limited { path, most })? {
-            Ok(input) => {
-                put_verdict(self.rt.alloc(), out, language, path, &input)?;
-                Ok(Ok(input))
-            }
-            Err(fault) => fault
-                .put(self.rt, out, asked.files.grammar, &language.opened)
-                .map(Err),
-        }
-    }
-
-    /// Reads all inputs.
+    /// Reads all inputs. Where there is none, or one isn't accepted, that is written.
     fn read_all<W: Write>(
         &mut self,
         asked: Asked<'_>,
@@ -108,10 +87,17 @@ impl<F: Files + AllocGlobal, R: Read, E: Write> Given<'_, F, R, E> {
             read: Vec::new(self.rt.alloc()),
             status: 0,
         };
+        let most = asked.most;
         for path in asked.inputs {
-            match self.read_told(asked, language, path, out)? {
-                Ok(input) => inputs.read.push(input).map_err(AllocError::from)?,
-                Err(status) => inputs.status = status.max(inputs.status),
+            match self.read_input(language, Limited { path, most })? {
+                Ok(input) => {
+                    put_verdict(self.rt.alloc(), out, language, path, &input)?;
+                    inputs.read.push(input).map_err(AllocError::from)?;
+                }
+                Err(fault) => {
+                    let status = fault.put(self.rt, out, asked.files.grammar, &language.opened)?;
+                    inputs.status = status.max(inputs.status);
+                }
             }
         }
         Ok(inputs)

@@ -66,27 +66,32 @@ impl Form {
             Form::Table => "ydebug table",
         }
     }
+
+    /// The word for the form; the first one has none.
+    pub fn word(self) -> &'static str {
+        self.name().split_once(' ').map_or("", |(_, word)| word)
+    }
 }
 
-/// Each form but the first by its word.
-pub const BY_WORD: [(&str, Form); 11] = [
-    ("conflicts", Form::Conflicts),
-    ("check", Form::Check),
-    ("errors", Form::Errors),
-    ("sentences", Form::Sentences),
-    ("cover", Form::Cover),
-    ("page", Form::Page),
-    ("import", Form::Import),
-    ("tokens", Form::Tokens),
-    ("lex-spec", Form::Sketch),
-    ("rules", Form::Rules),
-    ("table", Form::Table),
+/// The forms but the first.
+pub const OTHERS: [Form; 11] = [
+    Form::Conflicts,
+    Form::Check,
+    Form::Errors,
+    Form::Sentences,
+    Form::Cover,
+    Form::Page,
+    Form::Import,
+    Form::Tokens,
+    Form::Sketch,
+    Form::Rules,
+    Form::Table,
 ];
 
 /// The form that a first word means.
 pub fn form_of(word: Option<&&str>) -> Form {
-    for (name, form) in &BY_WORD {
-        if word == Some(name) {
+    for form in &OTHERS {
+        if word == Some(&form.word()) {
             return *form;
         }
     }

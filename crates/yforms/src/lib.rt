@@ -1,11 +1,11 @@
 //! The forms of `ydebug`'s command line, over any files and streams: the program runs them over
 //! those of the system, and the playground over files in memory.
 //!
-//! `given` has what a run is given, and does what words ask for; `ending` says how that ends. The
-//! arguments of each form are in `forms`, their values are read by `values`, and `asked` says what
-//! they come to; `near` has what could be meant by others. `check`, `conflicts`, `cover`, `tokens`,
-//! `sketch` and `table` are forms; the others have a crate each. What the forms are given is opened
-//! by `yinput`.
+//! `given` has what a run is given, `run` does what its words ask for, and `ending` says how that
+//! ends. The arguments of each form are in `forms`, their values are read by `values`, and `asked`
+//! says what they come to; `near` has what could be meant by others. `check`, `conflicts`, `cover`,
+//! `tokens`, `sketch` and `table` are forms; the others have a crate each. What the forms are given
+//! is opened by `yinput`.
 #![tactic(auto)]
 
 mod asked;
@@ -16,6 +16,7 @@ mod ending;
 mod forms;
 mod given;
 mod near;
+mod run;
 mod sketch;
 mod table;
 mod tokens;

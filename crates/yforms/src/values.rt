@@ -8,6 +8,9 @@ use yinput::grammars::GrammarFile;
 use yinput::language::LanguageFiles;
 use ysentences::run::Drawn;
 
+/// What is said of a folder without a name.
+pub const NO_FOLDER: &str = "--save wants the name of a folder";
+
 /// The value of an argument that is required.
 pub fn value_of<'a>(matches: &ArgMatches<'a>, name: &str) -> Result<&'a str, Refused> {
     matches.get_str(name).ok_or(Refused::Arguments)

@@ -166,11 +166,11 @@ impl<'a> Files for Shelf<'a> {
         self.known(path)
     }
 
-    fn copy(&self, _from: &str, _to: &str) -> io::Result<u64> {
+    fn create_dir(&self, _path: &str) -> io::Result<()> {
         unwritten()
     }
 
-    fn rename(&self, _from: &str, _to: &str) -> io::Result<()> {
+    fn copy(&self, _from: &str, _to: &str) -> io::Result<u64> {
         unwritten()
     }
 
@@ -178,15 +178,15 @@ impl<'a> Files for Shelf<'a> {
         unwritten()
     }
 
-    fn create_dir(&self, _path: &str) -> io::Result<()> {
-        unwritten()
-    }
-
-    fn remove_dir(&self, _path: &str) -> io::Result<()> {
+    fn rename(&self, _from: &str, _to: &str) -> io::Result<()> {
         unwritten()
     }
 
     fn remove_dir_all<A: Allocator>(&self, _alloc: A, _path: &str) -> io::Result<()> {
+        unwritten()
+    }
+
+    fn remove_dir(&self, _path: &str) -> io::Result<()> {
         unwritten()
     }
 }
