@@ -21,7 +21,7 @@ use yrules::run as rules;
 use ysentences::run as sentences;
 
 /// What words ask for.
-#[derive(Clone, Copy)]
+#[derive(Drop)]
 pub enum Asked<'a> {
     /// Nothing, since options don't go together or the value of one is wrong, as this says.
     Wrong(&'static str),

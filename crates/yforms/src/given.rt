@@ -8,7 +8,7 @@ use yfiles::reading::Limited;
 use yinput::fault::Fault;
 use yinput::language::{Input, Language};
 
-/// What a run is given beside its words, and the place where its output goes.
+/// What a run is given beside its words and what it writes to.
 #[derive(Drop)]
 pub struct Given<'a, F, R, E> {
     /// What opens files.

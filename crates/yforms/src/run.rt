@@ -20,12 +20,18 @@ use ypage::page::run_page;
 use yrules::run::run_rules;
 use ysentences::run::run_sentences;
 
+/// Writes a text, and all that was written before it.
+fn put_now<W: Write>(out: &mut W, text: &[u8]) -> io::Result<()> {
+    out.write_all(text)?;
+    out.flush()
+}
+
 /// Writes the help or the version that was asked for.
 fn put_help<W: Write>(alloc: Global, help: &clap::Error, out: &mut W) -> Refused {
     let Ok(text) = format!(in alloc; "{help}") else {
         return Refused::Memory;
     };
-    match out.write_all(text.as_bytes()).and_then(|()| out.flush()) {
+    match put_now(out, text.as_bytes()) {
         Err(error) if error.kind() == io::ErrorKind::BrokenPipe => Refused::Unread,
         _ => Refused::Helped,
     }
