@@ -64,27 +64,26 @@ def is_left(name):
     return all(it.stat().st_mtime < made.stat().st_mtime for it in sources(name))
 
 
-def build(at, libraries, named, archive=ARCHIVE, toolchain=None, more=()):
-    """Proves the crate and builds its archive over libraries that are there."""
-    used = {it for one in (*libraries, "yembed") for it in named[one]} | {"std"}
+def build(at, name, archive, toolchain=None, more=()):
+    """Proves a static library and builds its archive over libraries that are there."""
+    named = uses()
+    used = {it for one in (*below(name, [], named), name) for it in named[one]} | {"std"}
     found = {it: rlib(it) if it in named else at / f"rlibs/{it}.rlib" for it in sorted(used)}
-    words = [at / "bin/rattle", "build", "--crate-name", "yembed", "src/lib.rt"]
-    for name, path in found.items():
-        words += ["--extern", f"{name}={path}", "-L", f"dependency={path.parent}"]
+    words = [at / "bin/rattle", "build", "--crate-name", name, "src/lib.rt"]
+    for it, path in found.items():
+        words += ["--extern", f"{it}={path}", "-L", f"dependency={path.parent}"]
     words += ["--antt-project", at / "rattle/logic/antt-project.json"]
     words += ["--logic-built", at / "logic_built", "--toolchain", toolchain or at / "toolchain"]
-    words += ["--crate-type", "staticlib", "--links", "yembed=", "--backend", "llvm"]
+    words += ["--crate-type", "staticlib", "--links", f"{name}=", "--backend", "llvm"]
     words += ["--jobs", os.environ.get("RT_JOBS", "2"), *more, "-o", archive]
-    run(words, CRATE)
+    run(words, TOP / "crates" / name)
 
 
 def made_archive(at):
     """Makes the archive of the crate."""
     ARCHIVE.parent.mkdir(parents=True, exist_ok=True)
-    named = uses()
-    libraries = below("yembed", [], named)
-    if all(map(is_left, libraries)):
-        build(at, libraries, named)
+    if all(map(is_left, below("yembed", [], uses()))):
+        build(at, "yembed", ARCHIVE)
     else:
         run(["rt", "lib"], CRATE)
 

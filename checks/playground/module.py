@@ -22,11 +22,11 @@ CONFLICTS = re.compile(r" conflicts \d+ \d+$")
 SHOWN = re.compile(r"(\d+) (running|popping|accepted|failed)")
 
 
-class Module:
-    """The module in a page, as a process of node that answers one request after another."""
+class Node:
+    """A process of node over a file, which answers lines of JSON, one after another."""
 
-    def __init__(self, page):
-        words = ["node", str(ANSWERS), str(page)]
+    def __init__(self, script, file):
+        words = ["node", str(script), str(file)]
         pipes = {"stdin": subprocess.PIPE, "stdout": subprocess.PIPE}
         self.process = subprocess.Popen(words, text=True, **pipes)
 
@@ -40,22 +40,29 @@ class Module:
         self.process.wait()
         self.process.stdout.close()
 
-    def ask(self, grammar, tokens="", commands="", shown=False):
-        """What is answered of texts; `shown` says that `show` stands after each command line."""
-        return self.answer({"grammar": grammar, "tokens": tokens, "commands": commands,
-                            "shown": shown})
-
-    def told(self, words, files, lines=""):
-        """What ydebug says by its arguments, over files and a standard input, and its status."""
-        return self.answer({"words": words, "files": files, "input": lines})
-
-    def answer(self, request):
-        """The answer to a request."""
+    def say(self, request):
+        """What is answered to a request."""
         print(json.dumps(request), file=self.process.stdin, flush=True)
         line = self.process.stdout.readline()
         if not line:
             raise Fault(f"node ended on {request}")
         return json.loads(line)
+
+
+class Module(Node):
+    """The module in a page."""
+
+    def __init__(self, page):
+        super().__init__(ANSWERS, page)
+
+    def ask(self, grammar, tokens="", commands="", shown=False):
+        """What is answered of texts; `shown` says that `show` stands after each command line."""
+        texts = {"grammar": grammar, "tokens": tokens, "commands": commands}
+        return self.say(texts | {"shown": shown})
+
+    def told(self, words, files, lines=""):
+        """What ydebug says by its arguments, over files and a standard input, and its status."""
+        return self.say({"words": words, "files": files, "input": lines})
 
 
 def fault_line(answer):

@@ -1,17 +1,20 @@
 """Runs the playground: the module in its page by node, and the page in a headless browser.
 
-    playground [--at PAGE] [--drawn N] [--install] [--shots FOLDER] [ystep=PATH]
+    playground [--at PAGE] [--module FILE] [--drawn N] [--forms N] [--install] [--shots FOLDER]
+               [ystep=PATH] [ydebug=PATH]
 
 Every scenario of `ystep` but those that ask for help comes back, byte for byte, from the module in
 PAGE, which is bin/playground.html unless given; so do the reports of the scenarios of `yacc`, and
 the replies to command lines over N grammars drawn at random (2,000), beside those of `ystep`. What
 the script of the page reads in these texts is compared with what stands there, and so is what
-docs/COURSE.md says is to be seen. The heap gives blocks at random, over memory of this machine. In
+docs/COURSE.md says is to be seen. `ydebug` in the module that is in FILE, bin/playground.wasm
+unless given, is run on the scenarios of `ydebug` that write no files, and on grammars drawn at
+random (300, or N by --forms) beside the program, byte for byte. The heap gives blocks at random, over memory of this machine. In
 the browser each example is stepped through by the keys, to the end and back; a fault is typed, a
 token is inserted and one dropped, an accepted parse unwound, an address opened, files are dropped,
 and an answer that takes long is broken off. With --install Debian's chromium and chromium-driver
-are installed by apt-get where they are missing. A line says what is skipped where node, `ystep` or
-a browser isn't there. Pictures are kept in FOLDER, which is `screenshots` unless given. The last
+are installed by apt-get where they are missing. A line says what is skipped where node, `ystep`,
+`ydebug` or a browser isn't there. Pictures are kept in FOLDER, which is `screenshots` unless given. The last
 line is `N passed, M failed`.
 """
 import gzip
@@ -25,6 +28,7 @@ from checks.library.run import compare_scenarios, count, stored
 from checks.pages import firefox
 from checks.pages import test as pages
 from checks.playground.course import compare_course
+from checks.playground.forms import compare_forms
 from checks.playground.module import compare_drawn, compare_reports
 from checks.playground.page import compare_in_firefox, compare_page
 from checks.scenarios.folders import Fault
@@ -36,6 +40,7 @@ from checks.shared.running import ran
 from checks.shared.tally import Tally
 
 SOURCES, PAGE = TOP / "packaging/playground", TOP / "bin/playground.html"
+MODULE = TOP / "bin/playground.wasm"
 MOST = 900_000
 ELSEWHERE = re.compile(r"https?:|\bimport\s*\(|\bfetch\(|XMLHttpRequest|<link[^>]*href=\"(?!data:)")
 
@@ -75,25 +80,35 @@ def compare_heap(room, source, tally):
     count("the heap", ran([str(made)]), tally)
 
 
-def compare_module(page, drawn, program, tally):
-    """The module, by node."""
-    if not shutil.which("node"):
-        print("skipped: there is no node", flush=True)
-        return
+def compare_module(page, given, programs, tally):
+    """The module in a page, by node."""
     with tempfile.TemporaryDirectory() as room:
         compare_heap(room, SOURCES / "heap.c", tally)
         compare_scenarios("the module", in_node(room, page), stored(), tally)
     compare_reports(page, tally)
     compare_course(page, tally)
-    if program:
-        compare_drawn(page, program, drawn, tally)
+    if program := program_of(programs, "ystep"):
+        compare_drawn(page, program, given.drawn, tally)
     else:
         print("skipped: there is no ystep", flush=True)
 
 
-def program_of(words):
-    """The path of ystep, where one is given or was proved."""
-    path = programs_of(words).get("ystep", proved("ystep"))
+def compare_by_node(page, given, programs, tally):
+    """What runs by node: the module in a page, and the one in a file."""
+    if not shutil.which("node"):
+        print("skipped: there is no node", flush=True)
+        return
+    compare_module(page, given, programs, tally)
+    module = Path(given.module)
+    if module.is_file():
+        compare_forms(module, program_of(programs, "ydebug"), given.forms, tally)
+    else:
+        print(f"skipped: there is no {module}", flush=True)
+
+
+def program_of(words, name):
+    """The path of a program, where one is given or was proved."""
+    path = programs_of(words).get(name, proved(name))
     return path if Path(path).is_file() else None
 
 
@@ -114,13 +129,14 @@ def main(words):
     """Runs the playground."""
     programs = [it for it in words if is_program(it)]
     rest = [it for it in words if not is_program(it)]
-    given = asked(__doc__, rest, at=str(PAGE), drawn=2000, install=False, shots="screenshots")
+    given = asked(__doc__, rest, at=str(PAGE), module=str(MODULE), drawn=2000, forms=300,
+                  install=False, shots="screenshots")
     page, tally = Path(given.at).absolute(), Tally()
     if not page.is_file():
         sys.exit(f"no {page}: make playground")
     lint(tally)
     look_at(tally, page.read_text())
-    for part in (lambda: compare_module(page, given.drawn, program_of(programs), tally),
+    for part in (lambda: compare_by_node(page, given, programs, tally),
                  lambda: browse(page, given, tally)):
         try:
             part()

@@ -1,9 +1,14 @@
 """Modules and pages of the playground that answer or show something else."""
+import contextlib
 import copy
+import dataclasses
+import io
 import random
+from pathlib import Path
 from unittest import mock
 
-from checks.playground import course, module, page, run
+from checks.playground import course, forms, module, page, run
+from checks.scenarios.folders import Fault, Scenario
 from checks.tests.fakes import Planted, changed, ended
 
 SHOW = "2 running\nstack: list NUM\nrest: ';'\ncounter: 0\nerrors: 0\n"
@@ -197,6 +202,103 @@ class TheCourse(Planted):
         self.assertEqual(found, ["NUM\n", "NUM NUM\n"])
 
 
+RIGHT = forms.Run(1, b"tokens: token 2\n", b"a hint\n")
+# Each has one part that is another.
+WRONG = [dataclasses.replace(RIGHT, **it) for it in (
+    {"status": 0}, {"out": b""}, {"out": b"tokens: token 3\n"}, {"errors": b"a hind\n"})]
+
+
+def scenario(**other):
+    """A scenario of `ydebug`, with something else in it."""
+    wanted = {"stdout": RIGHT.out, "message": RIGHT.errors, "status": b"1\n"}
+    usual = {"folder": Path("it"), "words": ["ydebug", "check", "grammar.y", "tokens"],
+             "stdin": b"", "inputs": {"grammar.y": b"%%"}, "links": {}, "streams": {},
+             "wanted": {**wanted, "left/grammar.y": b"%%"}}
+    return Scenario(**usual | other)
+
+
+def answering(*answers):
+    """A module that answers so to one run after another."""
+    return mock.Mock(run=mock.Mock(side_effect=answers), call=mock.Mock(side_effect=answers))
+
+
+class TheForms(Planted):
+    """The checks of `ydebug` in the module."""
+
+    def test_layout(self):
+        """Words and files as the call takes them."""
+        self.assertEqual(forms.words_as_bytes(["check", "", "\udcff"]), b"check\0\0\xff\0")
+        files = {"a": b"x\0y", "b/c": b""}
+        self.assertEqual(forms.files_as_bytes(files), b"a\x003\0x\0yb/c\x000\0")
+
+    def test_scenarios(self):
+        """Another byte of an output, another status, a module that traps."""
+        self.each_caught(lambda it: forms.wrong_scenario(answering(it), scenario()), RIGHT, *WRONG)
+        made = forms.wrong_scenario(answering(Fault("it trapped")), scenario())
+        self.assertEqual(made, ["it trapped\n"])
+
+    def test_sums(self):
+        """An output of which only the sum is kept."""
+        inputs = {"stdout": b"long"}
+        sum_of = forms.summed(inputs, {"stdout.sum": b""})
+        wanted = {**sum_of, "message": b"", "status": b"0\n"}
+        how = {"wanted": wanted, "inputs": {}}
+        for text, wrong in (b"long", False), (b"lone", True):
+            made = forms.wrong_scenario(answering(forms.Run(0, text, b"")), scenario(**how))
+            self.assertEqual(bool(made), wrong)
+
+    def test_reasons(self):
+        """What can't be run is left out with its reason, and all else is run."""
+        others = [{"wanted": {"left/new": b""}}, {"links": {"a": "b"}},
+                  {"streams": {"stdin": "/dev/zero"}}, {"words": ["ydebug", "/dev/null"]}]
+        some = [scenario(), *(scenario(**it) for it in others), scenario()]
+        out = io.StringIO()
+        with contextlib.redirect_stdout(out):
+            tally = forms.Counter()
+            counted = mock.Mock(take=lambda _, lines: tally.update([bool(lines)]))
+            forms.compare_scenarios(answering(RIGHT, WRONG[0]), some, counted)
+        self.assertEqual(tally, {False: 1, True: 1})
+        self.assertEqual(out.getvalue().count("1 scenarios of ydebug are left out"), len(others))
+
+    def test_refused(self):
+        """What isn't laid out well is taken, or something is written of it."""
+        for answer, failed in (forms.Run(125, b"", b""), 0), (forms.Run(2, b"", b""), 8), (
+                forms.Run(125, b"x", b""), 8), (forms.Run(125, b"", b"x"), 8):
+            made = self.counted(forms.compare_refused, answering(*[answer] * 8))
+            self.assertEqual(made[1], failed)
+
+    def test_runs(self):
+        """A run that is another one than that of the program."""
+        def wrong(answer):
+            ran = ended(RIGHT.out, RIGHT.errors, RIGHT.status)
+            with mock.patch.object(forms, "ran", return_value=ran):
+                return forms.wrong_run(answering(answer), "ydebug", self.room, ["check"], b"")
+        self.each_caught(wrong, RIGHT, *WRONG)
+
+    def test_files(self):
+        """The module gets the files of the folder, the words and the input of the program."""
+        (self.room / "tokens").write_text("NUM")
+        other = answering(forms.Run(0, b"", b""))
+        with mock.patch.object(forms, "ran", return_value=ended(b"", b"")):
+            forms.wrong_run(other, "ydebug", self.room, ["tokens"], b"where\n")
+        other.run.assert_called_once_with(["tokens"], {"tokens": b"NUM"}, b"where\n")
+
+    def test_drawn_is_whole(self):
+        """Each form of a grammar's comparison, and each wrong answer of one is found."""
+        for name in forms.FORMS:
+            wrong = lambda *given, it=name: ["wrong\n"] if given[3] == forms.FORMS[it] else []
+            how = {"wrong_run": wrong, "lines_of": lambda *_: ["where", "sav x"]}
+            with mock.patch.multiple(forms, **how):
+                found = forms.wrong_grammar(None, "", self.room, random.Random(1))
+            self.assertEqual(found, ["wrong\n"], name)
+
+    def test_drawn(self):
+        """What is wrong with one grammar is counted, and ends the comparison."""
+        for lines, counted in ([], (5, 0)), (["wrong\n"], (0, 1)):
+            with mock.patch.object(forms, "wrong_grammar", return_value=lines):
+                self.assertEqual(self.counted(forms.compare_drawn, None, "", 5), counted)
+
+
 class ThePage(Planted):
     """The checks of the page."""
 
@@ -279,8 +381,9 @@ class ThePage(Planted):
     def test_programs(self):
         """A program that is given goes before the proved one, by its whole path."""
         (self.room / "ystep").write_text("")
-        self.assertEqual(run.program_of([f"ystep={self.room}/ystep"]), f"{self.room}/ystep")
-        self.assertIsNone(run.program_of(["ystep=is/nowhere"]))
+        words = [f"ystep={self.room}/ystep", "ydebug=is/nowhere"]
+        self.assertEqual(run.program_of(words, "ystep"), f"{self.room}/ystep")
+        self.assertIsNone(run.program_of(words, "ydebug"))
 
     def test_skipped(self):
         """Without node, ystep and a browser lines say so."""

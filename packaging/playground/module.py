@@ -1,8 +1,9 @@
-"""Makes the module of the playground: the library in WebAssembly.
+"""Makes the module of the playground: the library and `ydebug` over files in memory, in WebAssembly.
 
-The crate yembed is proved and compiled as for the library, and what the backend hands to clang is
-kept on its way. As LLVM's text it is given the machine of WebAssembly, compiled and linked by the
-kit's clang and lld beside a heap in C, and narrowed.
+The crates yembed and yplayground are proved and compiled as static libraries, and what the backend
+hands to clang is kept on its way. As LLVM's text each is given the machine of WebAssembly, and
+hides all names but those of its calls. The texts are compiled and linked by the kit's clang and lld
+beside a heap in C, and the module is narrowed.
 """
 import re
 import shutil
@@ -12,13 +13,15 @@ from pathlib import Path
 import library
 from binary import Refused
 from narrow import narrowed
+from shuffle import with_shuffle
 
 HERE = Path(__file__).resolve().parent
 TARGET, NATIVE = "wasm64-unknown-unknown", "x86_64-unknown-linux-gnu"
 STACK = 1 << 20
 C_FILES = "heap", "wide"
-# What the module exports beside its memory: calls of the library, and the heap's for the page.
-CALLS = tuple(f"sulderko_{it}" for it in "fault judge report session table tokens".split())
+# What the module exports beside its memory: calls of each library, and the heap's for the page.
+LIBRARIES = {"yembed": "fault judge report session table tokens", "yplayground": "ydebug"}
+CALLS = {of: [f"sulderko_{it}" for it in words.split()] for of, words in LIBRARIES.items()}
 OF_THE_HEAP = "host_alloc", "host_free"
 # What stands as clang in a folder of tools.
 KEEPER = """#!{python} -IS
@@ -31,6 +34,10 @@ os.execv({clang!r}, [{clang!r}, *sys.argv[1:]])
 MACHINE = re.compile(r'^target (datalayout|triple) = ".*"$', re.M)
 OF_MACHINES = "probe-stack", "stack-probe-size", "target-cpu", "target-features", "tune-cpu"
 ATTRIBUTES = re.compile(f' "(?:{"|".join(OF_MACHINES)})"="[^"]*"')
+# A function or a value that other modules see, and its name.
+NAME = r'@("[^"]*"|[-$.\w]+)'
+SEEN = re.compile(rf"^(define )((?!internal |private )[^@\n]*{NAME}\(.*)$"
+                  rf"|^({NAME} = )((?!internal |private |external ).*)$", re.M)
 
 
 def keeping_tools(at, room, kept):
@@ -53,19 +60,24 @@ def highest(libraries, named):
     return [it for it in libraries if it not in used]
 
 
-def kept_module(at, room):
-    """What the backend hands to clang for the library."""
+def prove_below(name):
+    """Sees that the libraries on which one stands are proved."""
     named = library.uses()
-    libraries = library.below("yembed", [], named)
+    libraries = library.below(name, [], named)
     if not all(map(library.is_left, libraries)):
         for it in highest(libraries, named):
             library.run(["rt", "lib"], library.TOP / "crates" / it)
-    kept, before = room / "kept", library.CRATE / "out/incremental"
-    tools = keeping_tools(at, room / "tools", kept)
+
+
+def kept_module(at, room, name):
+    """What the backend hands to clang for a static library."""
+    prove_below(name)
+    kept, before = room / f"{name}.kept", library.TOP / f"crates/{name}/out/incremental"
+    tools = keeping_tools(at, room / f"{name}.tools", kept)
     more = ["--incremental", before] if before.is_dir() else []
-    library.build(at, libraries, named, room / "libyembed.a", tools, more)
+    library.build(at, name, room / f"lib{name}.a", tools, more)
     if not kept.is_file():
-        raise Refused("the backend handed nothing to clang")
+        raise Refused(f"the backend handed nothing of {name} to clang")
     return kept
 
 
@@ -99,11 +111,29 @@ def moved(text, machine):
     return ATTRIBUTES.sub("", MACHINE.sub(lambda it: machine[it[1]], text))
 
 
+def hidden(text, names):
+    """LLVM's text in which no function or value is seen from elsewhere but some by their names."""
+    def hide(found):
+        start, rest, name, start_of_value, name_of_value, value = found.groups()
+        if (name or name_of_value).strip('"') in names:
+            return found[0]
+        return f"{start or start_of_value}internal {rest or value}"
+    return SEEN.sub(hide, text)
+
+
 def compiled(at, room, name, words):
     """An object for WebAssembly."""
     to = room / f"{name}.o"
     clang(at, f"--target={TARGET}", "-mcpu=lime1", "-O2", "-c", *words, "-o", to)
     return to
+
+
+def library_object(at, room, name, machine):
+    """The object of a static library."""
+    text = text_of(at, kept_module(at, room, name), room / f"{name}.native.ll")
+    file = room / f"{name}.ll"
+    file.write_text(hidden(moved(with_shuffle(text), machine), CALLS[name]))
+    return compiled(at, room, name, ["-x", "ir", file])
 
 
 def linked(at, room, objects, names):
@@ -118,12 +148,12 @@ def linked(at, room, objects, names):
 def made(room):
     """The module of the playground, made in a folder."""
     at = library.kit()
-    text = moved(text_of(at, kept_module(at, room), room / "native.ll"), machine_of(at, room))
-    (room / "wasm.ll").write_text(text)
     plain = ["-ffreestanding", "-nostdinc", "-Wall", "-Wextra", "-Werror"]
     objects = [compiled(at, room, it, [*plain, HERE / f"{it}.c"]) for it in C_FILES]
-    objects.append(compiled(at, room, "library", ["-x", "ir", room / "wasm.ll"]))
-    return narrowed(linked(at, room, objects, [*CALLS, *OF_THE_HEAP]))
+    machine = machine_of(at, room)
+    objects += [library_object(at, room, it, machine) for it in LIBRARIES]
+    calls = [it for some in CALLS.values() for it in some]
+    return narrowed(linked(at, room, objects, [*calls, *OF_THE_HEAP]))
 
 
 if not shutil.which("rt"):

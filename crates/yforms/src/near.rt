@@ -1,11 +1,10 @@
 //! What could be meant by arguments that are no command and no option.
 
-use crate::forms::{BY_WORD, Form, arguments_of, option_of};
+use crate::forms::{Form, OTHERS, arguments_of, option_of};
 use std::alloc::Global;
 use std::fs;
 use std::io::{self, Write};
 use std::rt::Files;
-use ycommands::words::near_in;
 use yexplain::reads::Made;
 use yfaults::nearest::Search;
 
@@ -17,6 +16,15 @@ fn near_option<'a>(alloc: Global, form: Form, name: &'a str) -> Made<Option<&'a 
             return Ok(None);
         }
         search.offer(alloc, option.as_bytes())?;
+    }
+    Ok(search.text())
+}
+
+/// The word of a form that is near to another word.
+fn near_form(alloc: Global, word: &str) -> Made<Option<&str>> {
+    let mut search = Search::new(word.as_bytes());
+    for form in &OTHERS {
+        search.offer(alloc, form.word().as_bytes())?;
     }
     Ok(search.text())
 }
@@ -43,7 +51,7 @@ pub fn put_near_form<F: Files + AllocGlobal, W: Write>(
     out: &mut W,
     word: &str,
 ) -> io::Result<()> {
-    match near_in(rt.alloc(), &BY_WORD, word)? {
+    match near_form(rt.alloc(), word)? {
         Some(near) if !word.contains('/') && fs::metadata(rt, word).is_err() => {
             writeln!(
                 out,

@@ -1,6 +1,7 @@
 //! `ydebug tokens`: the tokens of a text as a tokens file.
 
-use std::io::{self, Write};
+use crate::given::Given;
+use std::io::{self, Read, Write};
 use std::rt::Files;
 use yexplain::lines::newlines;
 use yexplain::reads::grammar_of;
@@ -42,27 +43,28 @@ fn put_tokens<W: Write>(
     writeln!(out)
 }
 
-/// Writes a tokens file of a text that a SPEC cuts, and gives the exit status: 1 where the grammar,
-/// the SPEC or the text is refused, 3 where one can't be read or memory runs out.
-pub fn run_tokens<F: Files + AllocGlobal, W: Write, E: Write>(
-    rt: &F,
-    files: LanguageFiles<'_>,
-    input: Limited<'_>,
-    out: &mut W,
-    errors: &mut E,
-) -> io::Result<u8> {
-    let language = match Language::open(rt, files, errors)? {
-        Ok(language) => language,
-        Err(status) => return Ok(status),
-    };
-    let opened = &language.opened;
-    match language.read(rt, input)? {
-        Ok(input) => {
-            if let Some(text) = &input.text {
-                put_tokens(out, grammar_of(&opened.tables), &input.tokens.symbols, text)?;
+impl<F: Files + AllocGlobal, R: Read, E: Write> Given<'_, F, R, E> {
+    /// Writes a tokens file of a text that a SPEC cuts, and gives the exit status: 1 where the
+    /// grammar, the SPEC or the text is refused, 3 where one can't be read or memory runs out.
+    pub fn run_tokens<W: Write>(
+        &mut self,
+        files: LanguageFiles<'_>,
+        input: Limited<'_>,
+        out: &mut W,
+    ) -> io::Result<u8> {
+        let language = match Language::open(self.rt, files, &mut self.errors)? {
+            Ok(language) => language,
+            Err(status) => return Ok(status),
+        };
+        let opened = &language.opened;
+        match language.read(self.rt, input)? {
+            Ok(input) => {
+                if let Some(text) = &input.text {
+                    put_tokens(out, grammar_of(&opened.tables), &input.tokens.symbols, text)?;
+                }
+                Ok(0)
             }
-            Ok(0)
+            Err(fault) => fault.put(self.rt, &mut self.errors, files.grammar, opened),
         }
-        Err(fault) => fault.put(rt, errors, files.grammar, opened),
     }
 }

@@ -1,44 +1,15 @@
-//! What the arguments of a form say: files, numbers, flags; and why nothing is done.
+//! What the arguments of a form say: files, numbers, flags.
 
+use crate::ending::Refused;
 use clap::ArgMatches;
-use std::alloc::AllocError;
-use std::io;
 use ycover::elements::Kind;
 use yfiles::reading::{LONGEST_INPUT, Limited};
 use yinput::grammars::GrammarFile;
 use yinput::language::LanguageFiles;
 use ysentences::run::Drawn;
 
-/// Why nothing was done.
-#[derive(Clone, Copy)]
-pub enum Refused {
-    /// The words are not those of the program.
-    Arguments,
-    /// Help or the version was asked for, and is written.
-    Helped,
-    /// Memory ran out.
-    Memory,
-    /// Nobody reads what is written any more.
-    Unread,
-    /// The standard streams fail.
-    Outside,
-}
-
-impl From<AllocError> for Refused {
-    fn from(_refused: AllocError) -> Refused {
-        Refused::Memory
-    }
-}
-
-impl From<io::Error> for Refused {
-    fn from(error: io::Error) -> Refused {
-        match error.kind() {
-            io::ErrorKind::OutOfMemory => Refused::Memory,
-            io::ErrorKind::BrokenPipe => Refused::Unread,
-            _ => Refused::Outside,
-        }
-    }
-}
+/// What is said of a folder without a name.
+pub const NO_FOLDER: &str = "--save wants the name of a folder";
 
 /// The value of an argument that is required.
 pub fn value_of<'a>(matches: &ArgMatches<'a>, name: &str) -> Result<&'a str, Refused> {
@@ -81,10 +52,15 @@ pub fn number_of(matches: &ArgMatches<'_>, name: &str) -> Result<Option<usize>, 
     }
 }
 
-/// An input, and how long it may be.
-pub fn input_of<'a>(matches: &ArgMatches<'a>, path: &'a str) -> Result<Limited<'a>, Refused> {
+/// A file of this path, and how long it may be.
+fn limited<'a>(matches: &ArgMatches<'a>, path: &'a str) -> Result<Limited<'a>, Refused> {
     let most = most_of(matches)?;
     Ok(Limited { path, most })
+}
+
+/// The input, and how long it may be.
+pub fn input_in<'a>(matches: &ArgMatches<'a>) -> Result<Limited<'a>, Refused> {
+    limited(matches, value_of(matches, "tokens")?)
 }
 
 /// How many bytes an input may have.
@@ -109,7 +85,7 @@ pub fn page_from(words: &[&str]) -> Result<(bool, usize), Refused> {
 /// The file of messages, where one is given.
 pub fn messages_in<'a>(matches: &ArgMatches<'a>) -> Result<Option<Limited<'a>>, Refused> {
     match matches.get_str("messages") {
-        Some(path) => input_of(matches, path).map(Some),
+        Some(path) => limited(matches, path).map(Some),
         None => Ok(None),
     }
 }

@@ -48,47 +48,54 @@ pub enum Form {
     Table,
 }
 
-/// Each form but the first by its word.
-pub const BY_WORD: [(&str, Form); 11] = [
-    ("conflicts", Form::Conflicts),
-    ("check", Form::Check),
-    ("errors", Form::Errors),
-    ("sentences", Form::Sentences),
-    ("cover", Form::Cover),
-    ("page", Form::Page),
-    ("import", Form::Import),
-    ("tokens", Form::Tokens),
-    ("lex-spec", Form::Sketch),
-    ("rules", Form::Rules),
-    ("table", Form::Table),
+impl Form {
+    /// The whole name of the program with the word for the form.
+    pub fn name(self) -> &'static str {
+        match self {
+            Form::Debug => "ydebug",
+            Form::Conflicts => "ydebug conflicts",
+            Form::Check => "ydebug check",
+            Form::Errors => "ydebug errors",
+            Form::Sentences => "ydebug sentences",
+            Form::Cover => "ydebug cover",
+            Form::Page => "ydebug page",
+            Form::Import => "ydebug import",
+            Form::Tokens => "ydebug tokens",
+            Form::Sketch => "ydebug lex-spec",
+            Form::Rules => "ydebug rules",
+            Form::Table => "ydebug table",
+        }
+    }
+
+    /// The word for the form; the first one has none.
+    pub fn word(self) -> &'static str {
+        self.name().split_once(' ').map_or("", |(_, word)| word)
+    }
+}
+
+/// The forms but the first.
+pub const OTHERS: [Form; 11] = [
+    Form::Conflicts,
+    Form::Check,
+    Form::Errors,
+    Form::Sentences,
+    Form::Cover,
+    Form::Page,
+    Form::Import,
+    Form::Tokens,
+    Form::Sketch,
+    Form::Rules,
+    Form::Table,
 ];
 
 /// The form that a first word means.
 pub fn form_of(word: Option<&&str>) -> Form {
-    for (name, form) in &BY_WORD {
-        if word == Some(name) {
+    for form in &OTHERS {
+        if word == Some(&form.word()) {
             return *form;
         }
     }
     Form::Debug
-}
-
-/// The whole name of the program with the word for a form.
-pub fn name_of(form: Form) -> &'static str {
-    match form {
-        Form::Debug => "ydebug",
-        Form::Conflicts => "ydebug conflicts",
-        Form::Check => "ydebug check",
-        Form::Errors => "ydebug errors",
-        Form::Sentences => "ydebug sentences",
-        Form::Cover => "ydebug cover",
-        Form::Page => "ydebug page",
-        Form::Import => "ydebug import",
-        Form::Tokens => "ydebug tokens",
-        Form::Sketch => "ydebug lex-spec",
-        Form::Rules => "ydebug rules",
-        Form::Table => "ydebug table",
-    }
 }
 
 const GRAMMAR: &str = "grammar: The grammar file";
@@ -292,10 +299,9 @@ pub fn arguments_of(form: Form) -> &'static [&'static str] {
     }
 }
 
-/// The command line of a form, which the program has under this name. Help on the first one names
-/// the others.
-pub fn command_of<'a>(alloc: Global, name: &'a str, form: Form) -> Result<Command<'a>, AllocError> {
-    let mut command = Command::new(alloc, name).about(about(form));
+/// The command line of a form. Help on the first one names the others.
+pub fn command_of<'a>(alloc: Global, form: Form) -> Result<Command<'a>, AllocError> {
+    let mut command = Command::new(alloc, form.name()).about(about(form));
     for word in arguments_of(form) {
         command = command.arg(argument(alloc, *word))?;
     }

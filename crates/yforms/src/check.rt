@@ -1,0 +1,143 @@
+//! `ydebug check`: the verdict on each input, by tables that are made once.
+
+use crate::given::Given;
+use std::alloc::Global;
+use std::io::{self, ErrorKind, Read, Write};
+use std::rt::Files;
+use ydiagnostics::checking::{self, run_checking};
+use ydiagnostics::format::Format;
+use ydiagnostics::messaged::Messaged;
+use yfiles::reading::Limited;
+use yinput::language::{Input, Language};
+use yinput::verdict::{Verdict, verdict_on};
+use yinput::verdict_text::{put_choice, put_plain_choice};
+
+/// What is asked for: verdicts on inputs.
+#[derive(Clone, Copy)]
+pub struct Asked<'a> {
+    /// The inputs, and by which files they are judged.
+    pub inputs: checking::Asked<'a>,
+    /// Whether to say if the grammar is free of choices.
+    pub choice: bool,
+    /// Whether to write plain lines.
+    pub plain: bool,
+}
+
+/// Writes the verdict on an input for people, and gives its exit status.
+fn put_told<W: Write>(
+    alloc: Global,
+    out: &mut W,
+    told: &Messaged,
+    path: &str,
+    (input, verdict): (&Input, &Verdict),
+) -> io::Result<u8> {
+    let spoken = told.language.spoken();
+    match told.message(alloc, input, verdict)? {
+        Some(message) => verdict.put(out, spoken, path, input, Some(message.as_slice())),
+        None => verdict.put(out, spoken, path, input, None),
+    }
+}
+
+impl Asked<'_> {
+    /// Writes whether the grammar has choices, where that is wanted.
+    fn put_choice<W: Write>(self, out: &mut W, language: &Language) -> io::Result<()> {
+        let (path, tables) = (self.inputs.files.grammar.path, &language.opened.tables);
+        if self.plain {
+            put_plain_choice(out, path, tables)
+        } else if self.choice {
+            put_choice(out, path, tables)
+        } else {
+            Ok(())
+        }
+    }
+
+    /// Writes the verdict on an input, and gives its exit status.
+    fn put_verdict<W: Write>(
+        self,
+        alloc: Global,
+        out: &mut W,
+        told: &Messaged,
+        path: &str,
+        input: &Input,
+    ) -> io::Result<u8> {
+        let verdict = verdict_on(alloc, &told.language.opened.tables, &input.tokens)?;
+        if self.plain {
+            verdict.put_plain(out, path)
+        } else {
+            put_told(alloc, out, told, path, (input, &verdict))
+        }
+    }
+}
+
+impl<F: Files + AllocGlobal, R: Read, E: Write> Given<'_, F, R, E> {
+    /// Writes what comes of an input, and gives its exit status.
+    fn put_input<W: Write>(
+        &mut self,
+        asked: Asked<'_>,
+        told: &Messaged,
+        path: &str,
+        out: &mut W,
+    ) -> io::Result<u8> {
+        let most = asked.inputs.most;
+        match self.read_input(&told.language, Limited { path, most })? {
+            Ok(input) => asked.put_verdict(self.rt.alloc(), out, told, path, &input),
+            Err(fault) => {
+                if asked.plain {
+                    return fault.put_plain(out);
+                }
+                let grammar = asked.inputs.files.grammar;
+                fault.put(self.rt, out, grammar, &told.language.opened)
+            }
+        }
+    }
+
+    /// Writes what comes of each input, and gives the greatest of their exit statuses.
+    fn put_inputs<W: Write>(
+        &mut self,
+        asked: Asked<'_>,
+        told: &Messaged,
+        out: &mut W,
+    ) -> io::Result<u8> {
+        let mut status = 0;
+        for path in asked.inputs.inputs {
+            let ended = match self.put_input(asked, told, path, out) {
+                Err(error) if error.kind() == ErrorKind::OutOfMemory => {
+                    writeln!(out, "{path}: no memory")?;
+                    3
+                }
+                ended => ended?,
+            };
+            status = ended.max(status);
+        }
+        Ok(status)
+    }
+
+    /// Writes what is asked for, for people, and gives the exit status.
+    fn put_verdicts<W: Write>(&mut self, asked: Asked<'_>, out: &mut W) -> io::Result<u8> {
+        let most = asked.inputs.most;
+        let messages = asked.inputs.messages.map(|path| Limited { path, most });
+        match Messaged::open(self.rt, asked.inputs.files, messages, &mut self.errors)? {
+            Ok(told) => {
+                asked.put_choice(out, &told.language)?;
+                self.put_inputs(asked, &told, out)
+            }
+            Err(status) => Ok(status),
+        }
+    }
+
+    /// Writes what is asked for, and gives the exit status: 0 where all inputs are accepted, 1 where
+    /// the grammar, the SPEC, the file of messages or an input is refused or one isn't accepted, 3
+    /// where one can't be read, or memory runs out. For people, faults of the grammar, the SPEC and
+    /// the file of messages are told as errors.
+    pub fn run_check<W: Write>(&mut self, asked: Asked<'_>, out: &mut W) -> io::Result<u8> {
+        if asked.inputs.format == Format::Text {
+            return self.put_verdicts(asked, out);
+        }
+        let files = asked.inputs.files.with_columns();
+        let asked = checking::Asked {
+            files,
+            ..asked.inputs
+        };
+        run_checking(self.rt, asked, &mut self.input, out)
+    }
+}

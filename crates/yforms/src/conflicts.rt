@@ -1,0 +1,194 @@
+//! `ydebug conflicts`: the report on conflicts, and whether they are accepted.
+
+use crate::given::Given;
+use crate::values::NO_FOLDER;
+use std::io::{self, Read, Write};
+use std::rt::Files;
+use yaccepted::expected::{Counts, numbers_in};
+use yaccepted::judged::{self, Judged, judge};
+use yaccepted::opening::{Counted, File, open_counted};
+use ydiagnostics::format::{Format, NO_FORM, form_of};
+use ydiagnostics::report::{self as machine, run_report};
+use yfaults::opening::Opened;
+use yfiles::same::refused_output;
+use yinput::grammars::GrammarFile;
+use yreports::report::{self, put_conflicts};
+use yreports::warnings::warnings_of;
+
+/// What is asked for: the conflicts of a grammar file, where to keep the lists, and which conflicts
+/// are accepted.
+#[derive(Clone, Copy)]
+pub struct Asked<'a> {
+    /// The grammar file.
+    pub grammar: GrammarFile<'a>,
+    /// The folder in which each list becomes a tokens file.
+    pub save: Option<&'a str>,
+    /// Whether a conflict that isn't accepted, or a warning, makes the status 1.
+    pub strict: bool,
+    /// How many conflicts are accepted: `N`, or `N,M`.
+    pub expect: Option<&'a str>,
+    /// The path of the list of accepted conflicts.
+    pub accept: Option<&'a str>,
+    /// Whether that is written anew.
+    pub update: bool,
+    /// The form of what is said; without it, it is for people.
+    pub format: Option<&'a str>,
+}
+
+/// What is wrong with options.
+pub fn wrong_in(asked: Asked<'_>) -> Option<&'static str> {
+    let Asked {
+        save,
+        expect,
+        accept,
+        update,
+        format,
+        ..
+    } = asked;
+    if save == Some("") {
+        Some(NO_FOLDER)
+    } else if update && accept.is_none() {
+        Some("--update wants --accept FILE")
+    } else if expect.is_some() && counts_in(asked).is_none() {
+        Some("--expect wants a number of conflicts, or two with a comma between")
+    } else if form_of(format).is_none() {
+        Some(NO_FORM)
+    } else if save.is_some() && form_of(format) != Some(Format::Text) {
+        Some("--save wants --format text")
+    } else {
+        None
+    }
+}
+
+/// The numbers of conflicts that are accepted.
+fn counts_in(asked: Asked<'_>) -> Option<Counts> {
+    numbers_in(asked.expect?)
+}
+
+/// Whether a grammar has a warning, where all its conflicts are accepted and that counts.
+fn is_warned<F: AllocGlobal>(
+    rt: &F,
+    asked: Asked<'_>,
+    accepted: Option<bool>,
+    opened: &Opened,
+) -> io::Result<bool> {
+    if !asked.strict || accepted != Some(true) {
+        return Ok(false);
+    }
+    let warnings = warnings_of(rt.alloc(), &opened.tables, &opened.lines)?;
+    Ok(!warnings.is_empty())
+}
+
+/// Writes what a list of accepted conflicts comes to, where there is one, and on `errors` which
+/// conflicts it hasn't, and which the grammar hasn't.
+fn put_listed<W: Write, E: Write>(
+    asked: Asked<'_>,
+    judged: &Judged,
+    out: &mut W,
+    errors: &mut E,
+) -> io::Result<()> {
+    match (&judged.listed, asked.accept) {
+        (Some(listed), Some(path)) => {
+            listed.put(out, path)?;
+            listed.put_told(errors, asked.grammar.path, path)
+        }
+        _ => Ok(()),
+    }
+}
+
+/// Which conflicts are accepted.
+fn accepted_by(asked: Asked<'_>) -> judged::Asked<'_> {
+    judged::Asked {
+        grammar: asked.grammar.path,
+        expect: counts_in(asked),
+        accept: asked.accept,
+        update: asked.update,
+    }
+}
+
+/// The grammar file as it is read for a form of what is said.
+fn file_of(asked: Asked<'_>, format: Format) -> File<'_> {
+    let GrammarFile { path, bison, .. } = asked.grammar;
+    File {
+        path,
+        bison,
+        comments: asked.strict && asked.expect.is_none(),
+        columns: format != Format::Text,
+    }
+}
+
+impl<F: Files + AllocGlobal + Clone + Drop, R: Read, E: Write> Given<'_, F, R, E> {
+    /// Writes the report, and gives the exit status.
+    fn put_report<W: Write>(
+        &mut self,
+        asked: Asked<'_>,
+        opened: Opened,
+        judged: &Judged,
+        out: &mut W,
+    ) -> io::Result<u8> {
+        let (rt, accepted) = (self.rt, judged.is_accepted());
+        let is_warned = is_warned(rt, asked, accepted, &opened)?;
+        let report = report::Asked {
+            grammar: asked.grammar.path,
+            save: asked.save,
+            strict: asked.strict && accepted.is_none(),
+        };
+        let status = put_conflicts(rt, out, &mut self.errors, report, opened)?;
+        put_listed(asked, judged, out, &mut self.errors)?;
+        let is_bad = asked.strict && (is_warned || accepted == Some(false));
+        Ok(if is_bad { status.max(1) } else { status })
+    }
+
+    /// Judges the conflicts of a grammar, writes the report, and gives the exit status.
+    fn put_counted<W: Write>(
+        &mut self,
+        asked: Asked<'_>,
+        counted: Counted,
+        out: &mut W,
+    ) -> io::Result<u8> {
+        let judged = match judge(self.rt, accepted_by(asked), &counted, &mut self.errors)? {
+            Ok(judged) => judged,
+            Err(status) => return Ok(status),
+        };
+        let Counted { opened, .. } = counted;
+        self.put_report(asked, opened, &judged, out)
+    }
+
+    /// Writes what is said of conflicts, and gives the exit status.
+    fn put_by<W: Write>(
+        &mut self,
+        asked: Asked<'_>,
+        format: Format,
+        out: &mut W,
+    ) -> io::Result<u8> {
+        let file = file_of(asked, format);
+        if format == Format::Text {
+            return match open_counted(self.rt, file, &mut self.errors)? {
+                Ok(counted) => self.put_counted(asked, counted, out),
+                Err(status) => Ok(status),
+            };
+        }
+        let asked = machine::Asked {
+            file,
+            accepted: accepted_by(asked),
+            strict: asked.strict,
+            format,
+        };
+        run_report(self.rt, asked, out)
+    }
+
+    /// Writes what is asked for, and gives the exit status: 0; 1 where the grammar or the list of
+    /// accepted conflicts is refused, or with `strict` a conflict isn't accepted or there is a
+    /// warning; 2 where the list would be written over the grammar; 3 where a file can't be read or
+    /// written, memory runs out, or there are too many states.
+    pub fn run_conflicts<W: Write>(&mut self, asked: Asked<'_>, out: &mut W) -> io::Result<u8> {
+        let output = if asked.update { asked.accept } else { None };
+        match refused_output(self.rt, output, &[asked.grammar.path], &mut self.errors)? {
+            Some(status) => Ok(status),
+            None => {
+                let format = form_of(asked.format).unwrap_or(Format::Text);
+                self.put_by(asked, format, out)
+            }
+        }
+    }
+}

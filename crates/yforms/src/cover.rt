@@ -1,0 +1,122 @@
+//! `ydebug cover`: what inputs use of the tables of a grammar, and what none of them uses.
+
+use crate::given::Given;
+use std::alloc::{AllocError, Global};
+use std::io::{self, Read, Write};
+use std::rt::Files;
+use ycover::elements::Elements;
+use ycover::report::put_report;
+use ycover::walk::{Walked, Walker};
+use yexplain::lines::Lines;
+use yfaults::opening::Opened;
+use yfiles::reading::Limited;
+use yinput::language::{Input, Language, LanguageFiles};
+use yinput::verdict::{Verdict, verdict_on};
+
+/// What is asked for: what inputs use.
+#[derive(Clone, Copy)]
+pub struct Asked<'a> {
+    /// The files of their language.
+    pub files: LanguageFiles<'a>,
+    /// The paths of the inputs; `-` is standard input.
+    pub inputs: &'a [&'a str],
+    /// The most bytes of an input.
+    pub most: u64,
+    /// Whether what isn't used makes the status 1.
+    pub strict: bool,
+}
+
+/// The inputs that were read, and the exit status that the others give.
+#[derive(Drop)]
+struct Inputs {
+    read: Vec<Input>,
+    status: u8,
+}
+
+/// Writes the verdict on an input, where it isn't accepted.
+fn put_verdict<W: Write>(
+    alloc: Global,
+    out: &mut W,
+    language: &Language,
+    path: &str,
+    input: &Input,
+) -> io::Result<()> {
+    match verdict_on(alloc, &language.opened.tables, &input.tokens)? {
+        Verdict::Accepted(_) => Ok(()),
+        verdict => verdict
+            .put(out, language.spoken(), path, input, None)
+            .map(|_| ()),
+    }
+}
+
+/// What parses over inputs use.
+fn walk_all(alloc: Global, opened: Opened, inputs: &[Input]) -> io::Result<(Walked, Lines)> {
+    let Opened { tables, lines } = opened;
+    let mut walker = Walker::new(alloc, tables)?;
+    for input in inputs {
+        walker.walk(&input.tokens.symbols)?;
+    }
+    Ok((walker.finish()?, lines))
+}
+
+/// Writes what parses over inputs use, and says whether that is all.
+fn put_uses<W: Write>(
+    alloc: Global,
+    out: &mut W,
+    opened: Opened,
+    inputs: &[Input],
+) -> io::Result<bool> {
+    let (walked, lines) = walk_all(alloc, opened, inputs)?;
+    let elements = Elements {
+        tables: &walked.tables,
+        lines: &lines,
+        cells: &walked.cells,
+    };
+    put_report(out, elements, &walked.uses)
+}
+
+impl<F: Files + AllocGlobal, R: Read, E: Write> Given<'_, F, R, E> {
+    /// Reads all inputs. Where there is none, or one isn't accepted, that is written.
+    fn read_all<W: Write>(
+        &mut self,
+        asked: Asked<'_>,
+        language: &Language,
+        out: &mut W,
+    ) -> io::Result<Inputs> {
+        let mut inputs = Inputs {
+            read: Vec::new(self.rt.alloc()),
+            status: 0,
+        };
+        let most = asked.most;
+        for path in asked.inputs {
+            match self.read_input(language, Limited { path, most })? {
+                Ok(input) => {
+                    put_verdict(self.rt.alloc(), out, language, path, &input)?;
+                    inputs.read.push(input).map_err(AllocError::from)?;
+                }
+                Err(fault) => {
+                    let status = fault.put(self.rt, out, asked.files.grammar, &language.opened)?;
+                    inputs.status = status.max(inputs.status);
+                }
+            }
+        }
+        Ok(inputs)
+    }
+
+    /// Writes what is asked for, and gives the exit status: 0; 1 where the grammar, the SPEC or an
+    /// input is refused, or where something isn't used and that is to count; 3 where a file can't
+    /// be read, or memory runs out. Faults of the grammar and of the SPEC are told as errors.
+    pub fn run_cover<W: Write>(&mut self, asked: Asked<'_>, out: &mut W) -> io::Result<u8> {
+        let language = match Language::open(self.rt, asked.files, &mut self.errors)? {
+            Ok(language) => language,
+            Err(status) => return Ok(status),
+        };
+        let Inputs { read, status } = self.read_all(asked, &language, out)?;
+        let is_all = put_uses(self.rt.alloc(), out, language.into_opened(), &read)?;
+        Ok(if asked.strict && !is_all {
+            status.max(1)
+        } else {
+            status
+        })
+    }
+}

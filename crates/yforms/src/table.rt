@@ -1,0 +1,62 @@
+//! `ydebug table`: the files that `yacc` writes, by the same call.
+
+use crate::given::Given;
+use std::io::{self, ErrorKind, Read, Write};
+use std::rt::Files;
+use yfolder::Disk;
+use ygenerate::generate::{GenerateFault, generate};
+use yinput::grammars::{GrammarFile, open_file};
+use ytables::Counts;
+
+/// What is asked for: the table of a grammar file, and its report where that is wanted.
+#[derive(Clone, Copy)]
+pub struct Asked<'a> {
+    /// The path of the grammar file.
+    pub grammar: &'a str,
+    /// What the names of the files begin with.
+    pub prefix: &'a str,
+    /// Whether the report is wanted.
+    pub report: bool,
+}
+
+/// Writes how many conflicts there are, where there are some.
+fn put_conflicts<E: Write>(errors: &mut E, counts: Counts) -> io::Result<()> {
+    let Counts {
+        shift_reduce,
+        reduce_reduce,
+    } = counts;
+    if shift_reduce == 0 && reduce_reduce == 0 {
+        return Ok(());
+    }
+    writeln!(
+        errors,
+        "conflicts: {shift_reduce} shift/reduce, {reduce_reduce} reduce/reduce"
+    )
+}
+
+impl<F: Files + AllocGlobal, R: Read, E: Write> Given<'_, F, R, E> {
+    /// Says what is wrong with a grammar file, and gives the exit status. Where nothing is, memory
+    /// ran out when it was read before.
+    fn put_wrong(&mut self, path: &str) -> io::Result<u8> {
+        match open_file(self.rt, GrammarFile::new(path, false), &mut self.errors)? {
+            Ok(_) => Err(io::Error::from(ErrorKind::OutOfMemory)),
+            Err(status) => Ok(status),
+        }
+    }
+
+    /// Writes the files, and gives the exit status: 0; 1 where the grammar is refused; 3 where a
+    /// file can't be read or written, memory runs out, or there are too many states.
+    pub fn run_table(&mut self, asked: Asked<'_>) -> io::Result<u8> {
+        let (rt, path, prefix) = (self.rt, asked.grammar, asked.prefix);
+        match generate(rt.alloc(), &mut Disk::new(rt), path, prefix, asked.report) {
+            Ok(counts) => put_conflicts(&mut self.errors, counts).map(|()| 0),
+            Err(GenerateFault::Source(_)) => self.put_wrong(path),
+            Err(GenerateFault::Unopened(text) | GenerateFault::Unwritten(text)) => {
+                let ending = text.ending();
+                writeln!(self.errors, "ydebug: cannot write {prefix}{ending}")?;
+                Ok(3)
+            }
+            Err(GenerateFault::NoRoom(_)) => Err(io::Error::from(ErrorKind::OutOfMemory)),
+        }
+    }
+}
