@@ -5,10 +5,10 @@ use crate::messages::Messages;
 use crate::slots::Slot;
 use std::alloc::Global;
 use std::io::{self, Write};
-use ydigest::digest_of;
 use yexplain::reads::grammar_of;
 use yinput::spelled::Spelled;
 use ytables::Tables;
+use yview::digest::digest_of;
 
 /// Writes some bytes after how many they are; there may be newlines among them.
 fn put_counted<W: Write>(out: &mut W, bytes: &[u8]) -> io::Result<()> {

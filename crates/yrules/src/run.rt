@@ -12,12 +12,12 @@ use crate::stems::stems_of;
 use std::alloc::Global;
 use std::io::{self, ErrorKind, Write};
 use std::rt::Files;
-use ydigest::digest_of;
 use yexplain::reads::grammar_of;
 use yfaults::opening::Opened;
 use yfiles::same::{is_same_file, refused_output};
 use yfiles::writing::put_asked;
 use yinput::grammars::{GrammarFile, GrammarText, open_with_text};
+use yview::digest::digest_of;
 
 /// What is asked for: the names of the rules of a grammar file, in a header, in a module, or where
 /// neither is wanted, in a list.

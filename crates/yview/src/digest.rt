@@ -1,5 +1,4 @@
 //! The digest of a table: the CRC-32 of its bytes, as gzip and zip have it.
-#![tactic(auto)]
 
 use std::alloc::{AllocError, Global};
 use ytables::{Link, Tables};
