@@ -1,8 +1,8 @@
 //! What a person is shown of a grammar, its tables and a parse by them.
 //!
 //! `page` is where text goes, with the column that it has come to, and `reading` asks a parse for
-//! what stands there and answers for any number. `digest` is the number by which a table is known. The
-//! other rooms write one view each.
+//! what stands there and answers for any number. `digest` is the number by which a table is known.
+//! The other rooms write one view each.
 #![tactic(auto)]
 
 pub mod derivation;
