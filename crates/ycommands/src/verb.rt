@@ -70,7 +70,8 @@ impl Verb {
             Verb::Upcoming => "upcoming: the upcoming tokens, with their places",
             Verb::State => "state [N]: a state: its items, actions and gotos",
             Verb::Expected => "expected: the tokens that can come here",
-            Verb::Why => "why [N] [T]: why the state, or N, does what it does at the token ahead, or at T",
+            Verb::Why =>
+                "why [N] [T]: why the state, or N, does what it does at the token ahead, or T",
             Verb::Rule => "rule N: a rule and its precedence",
             Verb::Symbol => "symbol NAME: a symbol: its rules, its uses, what it begins with",
             Verb::Grammar => "grammar: every rule",

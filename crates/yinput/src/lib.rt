@@ -1,11 +1,11 @@
 //! A grammar and its inputs, opened in one place: grammar files of yacc and of bison, tokens files,
 //! and texts that a SPEC cuts; what is wrong with an input, and the verdict on one.
 //!
-//! `spelled` has what people call tokens. `grammars` opens grammar files, `spec` what cuts texts, and
-//! `language` both; a language reads inputs. `text` has the text that tokens were cut from, `fault`
-//! why there are none. `source` opens parses, and `parse` is one. `expected` has the tokens that can
-//! come over a stack, `verdict` what comes of an input, and `verdict_text` writes that for people and
-//! as plain lines.
+//! `spelled` has what people call tokens. `grammars` opens grammar files, `spec` what cuts texts,
+//! and `language` both; a language reads inputs. `text` has the text that tokens were cut from,
+//! `fault` why there are none. `source` opens parses, and `parse` is one. `expected` has the tokens
+//! that can come over a stack, `verdict` what comes of an input, and `verdict_text` writes that for
+//! people and as plain lines.
 #![tactic(auto)]
 
 pub mod expected;

@@ -1,5 +1,5 @@
-//! Messages as data, for drivers: what tokens are called, and the pieces of the message of each state
-//! that has one.
+//! Messages as data, for drivers: what tokens are called, and the pieces of the message of each
+//! state that has one.
 
 use crate::messages::Messages;
 use crate::slots::Slot;

@@ -189,9 +189,9 @@ fn put_inputs<W: Write>(out: &mut W, path: &str, messages: &Messages) -> io::Res
     put_count(out, messages.claims.all.len(), "input", "inputs")
 }
 
-/// The messages that are asked for: those of the file; of one that is to be written anew, also where
-/// inputs are wrong or there is no such file; none where errors are to be listed. Where they can't
-/// be read, that is written, and the exit status is the answer.
+/// The messages that are asked for: those of the file; of one that is to be written anew, also
+/// where inputs are wrong or there is no such file; none where errors are to be listed. Where they
+/// can't be read, that is written, and the exit status is the answer.
 fn read_messages<F: Files + AllocGlobal, E: Write>(
     rt: &F,
     asked: Asked<'_>,

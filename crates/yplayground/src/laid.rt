@@ -18,13 +18,13 @@ pub struct Laid<'a> {
     pub files: Vec<File<'a>>,
 }
 
-/// The bytes before the first NUL byte, and those behind it.
+/// The bytes before the first NUL byte, and those after it.
 fn part(text: &[u8]) -> Option<(&[u8], &[u8])> {
     let end = text.iter().position(|byte| *byte == 0)?;
     Some((text.get(..end)?, text.get(end.saturating_add(1)..)?))
 }
 
-/// The first file, and what stands behind it.
+/// The first file, and what comes after it.
 fn file_of(text: &[u8]) -> Option<(File<'_>, &[u8])> {
     let (name, rest) = part(text)?;
     let (digits, rest) = part(rest)?;
@@ -37,11 +37,11 @@ fn file_of(text: &[u8]) -> Option<(File<'_>, &[u8])> {
 fn files_of(alloc: Global, text: &[u8]) -> Result<Option<Vec<File<'_>>>, AllocError> {
     let (mut files, mut rest) = (Vec::new(alloc), text);
     for _ in 0..text.len() {
-        let Some((file, behind)) = file_of(rest) else {
+        let Some((file, after)) = file_of(rest) else {
             break;
         };
         files.push(file)?;
-        rest = behind;
+        rest = after;
     }
     Ok(if rest.is_empty() { Some(files) } else { None })
 }

@@ -77,7 +77,7 @@ fn put_beginning(text: &[u8], room: &mut [u8]) -> usize {
 /// What the program `ydebug` writes of a command line, of files and of standard input, and the
 /// status with which it ends.
 ///
-/// The words are those after the name of the program, each with a NUL byte behind it. Of each file
+/// The words are those after the name of the program, each with a NUL byte after it. Of each file
 /// stand its name, a NUL byte, its length in decimal digits, a NUL byte and its bytes. Where they
 /// stand otherwise, the status is 125, and nothing is written. What goes to standard output and to
 /// standard error is put into the caller's memory by the beginnings that fit, and the lengths say

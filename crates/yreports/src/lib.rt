@@ -4,9 +4,9 @@
 //! (written by `block_text`), `ambiguity` whole sentences for their rivals (written by
 //! `ambiguity_text`), `also` what else a hint settles, `leading` the items of a state that lead to
 //! a shift, `numbers` the numbers of conflicts, `causes` what many have in common, found by changes
-//! that are tried on all cells (`tried`) and by tables without a rule that others cover (`covered`),
-//! `list_text` a list of tokens that gets to one, `splitting` what mends one of merged states, and
-//! `saving` keeps lists as files.
+//! that are tried on all cells (`tried`) and by tables without a rule that others cover
+//! (`covered`), `list_text` a list of tokens that gets to one, `splitting` what mends one of merged
+//! states, and `saving` keeps lists as files.
 #![tactic(auto)]
 
 mod also;

@@ -210,8 +210,8 @@ fn put_warning<W: Write>(page: &mut Page<W>, path: &str, warning: &Warning) {
     page.line(&warning.text);
 }
 
-/// Writes a line for each warning on this file, after an empty one, and says how many there are. It fails only
-/// when memory runs out.
+/// Writes a line for each warning on this file, after an empty one, and says how many there are. It
+/// fails only when memory runs out.
 pub fn put_warnings<W: Write>(
     page: &mut Page<W>,
     path: &str,
