@@ -75,14 +75,16 @@ impl Style<'_> {
 }
 
 impl Skeleton<'_> {
-    /// Writes the parameters of `yyparse`.
-    fn put_parse(&self, out: &mut Text<'_>, shown: Shown) -> io::Result<()> {
+    /// Writes a line with the parameters of `yyparse`, declared, in the middle.
+    fn put_parse(&self, out: &mut Text<'_>, front: &[u8], end: &[u8]) -> io::Result<()> {
         let mut list = List {
-            shown,
+            shown: Shown::Declared,
             is_empty: true,
         };
+        out.add(front)?;
         list.put_params(out, &self.parts.params, Taker::Lex)?;
-        list.put_void(out)
+        list.put_void(out)?;
+        out.add(end)
     }
 
     /// Writes what `yylex` gets.
@@ -127,24 +129,11 @@ impl Skeleton<'_> {
         list.put_params(out, &self.parts.params, Taker::Lex)
     }
 
-    /// Writes a line with a list in the middle.
-    fn put_line(
-        &self,
-        out: &mut Text<'_>,
-        front: &[u8],
-        shown: Shown,
-        end: &[u8],
-    ) -> io::Result<()> {
-        out.add(front)?;
-        self.put_parse(out, shown)?;
-        out.add(end)
-    }
-
     /// Declares `yyparse` for a header.
     pub fn put_prototype(&self, out: &mut Text<'_>) -> io::Result<()> {
         out.add(b"\nint ")?;
         out.add(&self.style.names)?;
-        self.put_line(out, b"parse (", Shown::Declared, b");\n")
+        self.put_parse(out, b"parse (", b");\n")
     }
 
     /// Writes the call of `yylex`, and how it is declared.
@@ -159,12 +148,7 @@ impl Skeleton<'_> {
     /// Writes the macros of byacc.
     fn put_byacc(&self, out: &mut Text<'_>) -> io::Result<()> {
         out.add(PARSE_PARAM.as_bytes())?;
-        self.put_line(
-            out,
-            b"# define YYPARSE_DECL() yyparse(",
-            Shown::Declared,
-            b")\n",
-        )?;
+        self.put_parse(out, b"# define YYPARSE_DECL() yyparse(", b")\n")?;
         out.add(b"#endif\n\n#ifdef YYLEX_PARAM\n")?;
         out.add(b"# ifndef YYLEX_PARAM_TYPE\n#  define YYLEX_PARAM_TYPE void *\n# endif\n")?;
         self.put_lex_macros(out, ("YYLEX_PARAM_TYPE YYLEX_PARAM", "YYLEX_PARAM"))?;
@@ -180,12 +164,7 @@ impl Skeleton<'_> {
     /// Writes the macros of bison.
     fn put_bison(&self, out: &mut Text<'_>) -> io::Result<()> {
         out.add(b"\n")?;
-        self.put_line(
-            out,
-            b"#define YYPARSE_DECL() yyparse (",
-            Shown::Declared,
-            b")\n",
-        )?;
+        self.put_parse(out, b"#define YYPARSE_DECL() yyparse (", b")\n")?;
         out.add(b"#define YYLEX yylex (")?;
         self.put_lex(out, Shown::Named, "")?;
         out.add(b")\n#define YYERROR_CALL(msg) yyerror (")?;

@@ -139,12 +139,8 @@ impl<'a> Skeleton<'a> {
 
     /// Writes the numbers of the tokens that have names in C, as an enum.
     fn put_enum(&self, out: &mut Text<'_>) -> io::Result<()> {
-        let (macros, types) = (&self.style.macros, self.style.types);
-        out.add(b"\n#ifndef ")?;
-        out.add(macros)?;
-        out.add(b"TOKENTYPE\n# define ")?;
-        out.add(macros)?;
-        out.add(b"TOKENTYPE\nenum ")?;
+        let types = self.style.types;
+        self.put_macros(out, "\n#ifndef @TOKENTYPE\n# define @TOKENTYPE\nenum ")?;
         out.add(types)?;
         out.add(b"tokentype {")?;
         self.put_members(out)?;
