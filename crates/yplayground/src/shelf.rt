@@ -95,7 +95,7 @@ impl<'a> Read for Open<'a> {
 
 impl<'a> Write for Open<'a> {
     fn write(&mut self, _buf: &[u8]) -> io::Result<usize> {
-        unwritten()
+        Err(io::Error::from(ErrorKind::ReadOnlyFilesystem))
     }
 
     fn flush(&mut self) -> io::Result<()> {
