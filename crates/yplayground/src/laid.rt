@@ -11,11 +11,11 @@ const PROGRAM: &str = "ydebug";
 
 /// The words of a command line, from the name of the program on, and files.
 #[derive(Drop)]
-pub struct Laid<'a> {
+pub struct Laid<'w, 'f> {
     /// The words.
-    pub words: Vec<&'a str>,
+    pub words: Vec<&'w str>,
     /// The files.
-    pub files: Vec<File<'a>>,
+    pub files: Vec<File<'f>>,
 }
 
 /// The bytes before the first NUL byte, and those after it.
@@ -64,11 +64,11 @@ fn words_of(alloc: Global, text: Option<&[u8]>) -> Result<Vec<&str>, Refused> {
 }
 
 /// The words and the files, where they are laid out as they are to be.
-pub fn laid_out<'a>(
+pub fn laid_out<'w, 'f>(
     alloc: Global,
-    words: &'a [u8],
-    files: &'a [u8],
-) -> Result<Option<Laid<'a>>, Refused> {
+    words: &'w [u8],
+    files: &'f [u8],
+) -> Result<Option<Laid<'w, 'f>>, Refused> {
     let words = match words {
         [] => None,
         [first @ .., 0] => Some(first),

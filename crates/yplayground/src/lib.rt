@@ -34,7 +34,7 @@ struct Run {
 }
 
 /// A run of `ydebug` by these words, over these files and this input.
-fn run_of<'a>(alloc: Global, laid: &'a Laid<'a>, input: &'a [u8]) -> Run {
+fn run_of(alloc: Global, laid: &Laid<'_, '_>, input: &[u8]) -> Run {
     let shelf = Shelf {
         alloc,
         files: &laid.files,
@@ -93,7 +93,8 @@ pub extern "C" fn sulderko_ydebug(
     errors: &mut [u8],
     errors_length: &mut usize,
 ) -> u32 {
-    let run = match laid_out(alloc, words, files) {
+    let laid = laid_out(alloc, words, files);
+    let run = match laid {
         Ok(Some(laid)) => run_of(alloc, &laid, input),
         Ok(None) => {
             *length = 0;

@@ -16,11 +16,11 @@ pub struct File<'a> {
 
 /// What has these files, which are read and never written.
 #[derive(Clone, Copy)]
-pub struct Shelf<'a> {
+pub struct Shelf<'s, 'a> {
     /// What gives memory.
     pub alloc: Global,
     /// The files.
-    pub files: &'a [File<'a>],
+    pub files: &'s [File<'a>],
 }
 
 /// A file that is open.
@@ -45,7 +45,7 @@ fn is_writing(how: &OpenOptions) -> bool {
     how.asks_write() || how.asks_append() || how.asks_create() || how.asks_create_new()
 }
 
-impl<'a> Shelf<'a> {
+impl<'s, 'a> Shelf<'s, 'a> {
     /// The file of a name.
     fn file(self, path: &str) -> Option<File<'a>> {
         for file in self.files {
@@ -127,7 +127,7 @@ impl<'a> OpenFile for Open<'a> {
     }
 }
 
-impl<'a> Alloc for Shelf<'a> {
+impl<'s, 'a> Alloc for Shelf<'s, 'a> {
     type A = Global;
 
     fn alloc(&self) -> Global {
@@ -135,7 +135,7 @@ impl<'a> Alloc for Shelf<'a> {
     }
 }
 
-impl<'a> Files for Shelf<'a> {
+impl<'s, 'a> Files for Shelf<'s, 'a> {
     type File = Open<'a>;
 
     type Dir = Empty;
