@@ -52,7 +52,7 @@ pub enum Asked<'a> {
 }
 
 /// A report on conflicts.
-fn conflicts_in<'a>(matches: &'a ArgMatches<'a>) -> Result<Asked<'a>, Refused> {
+fn conflicts_in<'m>(matches: &'m ArgMatches<'_>) -> Result<Asked<'m>, Refused> {
     let asked = conflicts::Asked {
         grammar: grammar_in(matches)?,
         save: matches.get_str("save"),
@@ -69,12 +69,12 @@ fn conflicts_in<'a>(matches: &'a ArgMatches<'a>) -> Result<Asked<'a>, Refused> {
 }
 
 /// The paths of inputs.
-fn inputs_in<'a>(matches: &'a ArgMatches<'a>) -> &'a [&'a str] {
+fn inputs_in<'m>(matches: &'m ArgMatches<'_>) -> &'m [&'m str] {
     matches.get_strs("tokens").unwrap_or(&[])
 }
 
 /// Verdicts on inputs.
-fn check_in<'a>(matches: &'a ArgMatches<'a>) -> Result<Asked<'a>, Refused> {
+fn check_in<'m>(matches: &'m ArgMatches<'_>) -> Result<Asked<'m>, Refused> {
     let format = form_of(matches.get_str("format"));
     let asked = check::Asked {
         inputs: checking::Asked {
@@ -111,7 +111,7 @@ fn wrong_in(asked: messages::Asked<'_>) -> Option<&'static str> {
 }
 
 /// Errors by example.
-fn errors_in<'a>(matches: &'a ArgMatches<'a>) -> Result<Asked<'a>, Refused> {
+fn errors_in<'m>(matches: &'m ArgMatches<'_>) -> Result<Asked<'m>, Refused> {
     let asked = messages::Asked {
         files: language_in(matches)?,
         messages: messages_in(matches)?,
@@ -126,7 +126,7 @@ fn errors_in<'a>(matches: &'a ArgMatches<'a>) -> Result<Asked<'a>, Refused> {
 }
 
 /// Sentences of a grammar.
-fn sentences_in<'a>(matches: &'a ArgMatches<'a>) -> Result<Asked<'a>, Refused> {
+fn sentences_in<'m>(matches: &'m ArgMatches<'_>) -> Result<Asked<'m>, Refused> {
     let asked = sentences::Asked {
         files: language_in(matches)?,
         kind: kind_in(matches)?,
@@ -143,7 +143,7 @@ fn sentences_in<'a>(matches: &'a ArgMatches<'a>) -> Result<Asked<'a>, Refused> {
 }
 
 /// What inputs use.
-fn cover_in<'a>(matches: &'a ArgMatches<'a>) -> Result<Asked<'a>, Refused> {
+fn cover_in<'m>(matches: &'m ArgMatches<'_>) -> Result<Asked<'m>, Refused> {
     Ok(Asked::Cover(cover::Asked {
         files: language_in(matches)?,
         inputs: inputs_in(matches),
@@ -153,7 +153,7 @@ fn cover_in<'a>(matches: &'a ArgMatches<'a>) -> Result<Asked<'a>, Refused> {
 }
 
 /// A page of a parse.
-fn page_in<'a>(matches: &'a ArgMatches<'a>) -> Result<Asked<'a>, Refused> {
+fn page_in<'m>(matches: &'m ArgMatches<'_>) -> Result<Asked<'m>, Refused> {
     let (bison, from) = page_from(matches.get_strs("from").unwrap_or(&[]))?;
     let files = LanguageFiles {
         grammar: GrammarFile::new(value_of(matches, "grammar")?, bison),
@@ -170,7 +170,7 @@ fn page_in<'a>(matches: &'a ArgMatches<'a>) -> Result<Asked<'a>, Refused> {
 }
 
 /// An import.
-fn import_in<'a>(matches: &'a ArgMatches<'a>) -> Result<Asked<'a>, Refused> {
+fn import_in<'m>(matches: &'m ArgMatches<'_>) -> Result<Asked<'m>, Refused> {
     Ok(Asked::Import(import::Asked {
         file: value_of(matches, "file")?,
         output: matches.get_str("output"),
@@ -178,7 +178,7 @@ fn import_in<'a>(matches: &'a ArgMatches<'a>) -> Result<Asked<'a>, Refused> {
 }
 
 /// Names for rules.
-fn rules_in<'a>(matches: &'a ArgMatches<'a>) -> Result<Asked<'a>, Refused> {
+fn rules_in<'m>(matches: &'m ArgMatches<'_>) -> Result<Asked<'m>, Refused> {
     Ok(Asked::Rules(rules::Asked {
         grammar: grammar_in(matches)?,
         header: matches.get_str("header"),
@@ -187,7 +187,7 @@ fn rules_in<'a>(matches: &'a ArgMatches<'a>) -> Result<Asked<'a>, Refused> {
 }
 
 /// The files that `yacc` writes.
-fn table_in<'a>(matches: &'a ArgMatches<'a>) -> Result<Asked<'a>, Refused> {
+fn table_in<'m>(matches: &'m ArgMatches<'_>) -> Result<Asked<'m>, Refused> {
     Ok(Asked::Table(table::Asked {
         grammar: value_of(matches, "grammar")?,
         prefix: matches.get_str("prefix").unwrap_or("y"),
@@ -196,9 +196,12 @@ fn table_in<'a>(matches: &'a ArgMatches<'a>) -> Result<Asked<'a>, Refused> {
 }
 
 /// What a form and what stands after it ask for.
-pub fn asked_in<'a>(form: Form, matches: &'a ArgMatches<'a>) -> Result<Asked<'a>, Refused> {
+pub fn asked_in<'m>(form: Form, matches: &'m ArgMatches<'_>) -> Result<Asked<'m>, Refused> {
     match form {
-        Form::Debug => Ok(Asked::Session(language_in(matches)?, input_in(matches)?)),
+        Form::Debug => {
+            let (files, input) = (language_in(matches)?, input_in(matches)?);
+            Ok(Asked::Session(files, input))
+        }
         Form::Conflicts => conflicts_in(matches),
         Form::Check => check_in(matches),
         Form::Errors => errors_in(matches),
@@ -206,8 +209,14 @@ pub fn asked_in<'a>(form: Form, matches: &'a ArgMatches<'a>) -> Result<Asked<'a>
         Form::Cover => cover_in(matches),
         Form::Page => page_in(matches),
         Form::Import => import_in(matches),
-        Form::Tokens => Ok(Asked::Tokens(language_in(matches)?, input_in(matches)?)),
-        Form::Sketch => Ok(Asked::Sketch(grammar_in(matches)?)),
+        Form::Tokens => {
+            let (files, input) = (language_in(matches)?, input_in(matches)?);
+            Ok(Asked::Tokens(files, input))
+        }
+        Form::Sketch => {
+            let file = grammar_in(matches)?;
+            Ok(Asked::Sketch(file))
+        }
         Form::Rules => rules_in(matches),
         Form::Table => table_in(matches),
     }
