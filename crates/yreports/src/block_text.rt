@@ -1,13 +1,13 @@
 //! A block of conflicts as it is written, but for the lists of tokens that get to it.
 
 use crate::blocks::{Block, Class, Entry};
-use crate::kinds::{put_front, put_states};
 use crate::numbers::Ranges;
 use std::io::Write;
 use yexplain::lines::Lines;
 use yexplain::reads::{grammar_of, name_of};
 use yexplain::text::Name;
 use yexplain::why::explain;
+use ylists::kinds::{put_front, put_states};
 use ytables::Tables;
 use yview::page::Page;
 

@@ -1,12 +1,11 @@
 //! The report on the conflicts of a grammar, with what else deserves a warning.
 //!
-//! `kinds` has the conflicts in short, `blocks` those of one state between the same rivals together
-//! (written by `block_text`), `ambiguity` whole sentences for their rivals (written by
-//! `ambiguity_text`), `also` what else a hint settles, `leading` the items of a state that lead to
-//! a shift, `numbers` the numbers of conflicts, `causes` what many have in common, found by changes
-//! that are tried on all cells (`tried`) and by tables without a rule that others cover
-//! (`covered`), `list_text` a list of tokens that gets to one, `splitting` what mends one of merged
-//! states, and `saving` keeps lists as files.
+//! `blocks` has the conflicts of one state between the same rivals together (written by
+//! `block_text`), `ambiguity` whole sentences for their rivals (written by `ambiguity_text`), `also`
+//! what else a hint settles, `leading` the items of a state that lead to a shift, `numbers` the
+//! numbers of conflicts, `causes` what many have in common, found by changes that are tried on all
+//! cells (`tried`) and by tables without a rule that others cover (`covered`), and `splitting` what
+//! mends a conflict of merged states. Lists of tokens are written and kept by `ylists`.
 #![tactic(auto)]
 
 mod also;
@@ -17,12 +16,9 @@ mod blocks;
 mod cause_text;
 mod causes;
 mod covered;
-pub mod kinds;
 mod leading;
-pub mod list_text;
 mod numbers;
 pub mod report;
-pub mod saving;
 mod splitting;
 mod tried;
 mod unused;

@@ -8,10 +8,7 @@ use crate::block_text::BlockText;
 use crate::blocks::{Block, Blocks, blocks_of};
 use crate::cause_text::CauseText;
 use crate::causes::causes_of;
-use crate::kinds::{put_counts, put_named};
 use crate::leading::put_leading;
-use crate::list_text::{ListText, put_unfound};
-use crate::saving::Folder;
 use crate::splitting::{MOST_SPLITS, split_of};
 use crate::warnings::put_warnings;
 use std::alloc::Global;
@@ -25,6 +22,9 @@ use yexplain::lines::Lines;
 use yexplain::reads::{Made, grammar_of};
 use yexplain::sources::{Source, sources_of};
 use yfaults::opening::Opened;
+use ylists::kinds::{put_counts, put_named};
+use ylists::list_text::{ListText, put_unfound};
+use ylists::saving::{Folder, put_failed};
 use yparse::Session;
 use yreasons::Reasons;
 use ytables::Tables;
@@ -203,17 +203,6 @@ impl<W: Write, F: Files + AllocGlobal + Clone + Drop> Report<'_, W, F> {
             let named = (first, first.saturating_add(MOST_NAMED));
             put_named(self.page, tables, self.lines, found, named);
         }
-    }
-}
-
-/// Writes what couldn't be written, where there is something, and gives the exit status.
-pub fn put_failed<E: Write>(errors: &mut E, failed: Option<&String>, status: u8) -> io::Result<u8> {
-    match failed {
-        Some(path) => {
-            writeln!(errors, "ydebug: cannot write {path}")?;
-            Ok(3)
-        }
-        None => Ok(status),
     }
 }
 

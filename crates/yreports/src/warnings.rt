@@ -1,6 +1,5 @@
 //! What deserves a warning in a grammar without a fault.
 
-use crate::kinds::put_front;
 use crate::unused::Done;
 use std::alloc::Global;
 use std::io::Write;
@@ -8,6 +7,7 @@ use yexplain::lines::{Lines, Mention, Spot};
 use yexplain::reads::{Made, grammar_of, is_reachable, left_of, level_of, set};
 use yexplain::text::{Name, RuleText};
 use ylalr::ERROR;
+use ylists::kinds::put_front;
 use ysourcemap::Role;
 use ysymbols::{Grammar, Sym, let_go};
 use ytables::Tables;

@@ -17,8 +17,7 @@ use yexplain::reads::{Made, grammar_of, set};
 use yfaults::opening::Opened;
 use yinput::language::{Language, LanguageFiles};
 use ylex::writer::Writer;
-use yreports::report::put_failed;
-use yreports::saving::Folder;
+use ylists::saving::{Folder, put_failed};
 use ytables::Tables;
 
 /// Sentences that are drawn.

@@ -15,8 +15,8 @@ use yexplain::reads::grammar_of;
 use yexplain::text::{Name, Names};
 use yinput::verdict::{Verdict, verdict_on};
 use ylex::writer::Writer;
+use ylists::saving::Folder;
 use yparse::Tokens;
-use yreports::saving::Folder;
 use ysymbols::{Grammar, Sym};
 
 /// The most elements that are named which a sentence is the first to use.

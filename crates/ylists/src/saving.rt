@@ -201,3 +201,14 @@ impl<F: Files + AllocGlobal + Clone + Drop> Folder<'_, F> {
         Ok(None)
     }
 }
+
+/// Writes what couldn't be written, where there is something, and gives the exit status.
+pub fn put_failed<E: Write>(errors: &mut E, failed: Option<&String>, status: u8) -> io::Result<u8> {
+    match failed {
+        Some(path) => {
+            writeln!(errors, "ydebug: cannot write {path}")?;
+            Ok(3)
+        }
+        None => Ok(status),
+    }
+}
