@@ -22,6 +22,9 @@ C_FILES = "heap", "wide"
 # What the module exports beside its memory: calls of each library, and the heap's for the page.
 LIBRARIES = {"yembed": "fault judge report session table tokens", "yplayground": "ydebug"}
 CALLS = {of: [f"sulderko_{it}" for it in words.split()] for of, words in LIBRARIES.items()}
+# The page is to be small: what answers at each key stroke is made fast, and all else short.
+FAST, SHORT = "-O2", "-Oz"
+LEVELS = {"yplayground": SHORT}
 OF_THE_HEAP = "host_alloc", "host_free"
 # What stands as clang in a folder of tools.
 KEEPER = """#!{python} -IS
@@ -123,8 +126,8 @@ def hidden(text, names):
 
 def compiled(at, room, name, words):
     """An object for WebAssembly."""
-    to = room / f"{name}.o"
-    clang(at, f"--target={TARGET}", "-mcpu=lime1", "-O2", "-c", *words, "-o", to)
+    to, level = room / f"{name}.o", LEVELS.get(name, FAST)
+    clang(at, f"--target={TARGET}", "-mcpu=lime1", level, "-c", *words, "-o", to)
     return to
 
 
