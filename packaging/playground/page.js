@@ -166,7 +166,7 @@ function showSession(text, { lines, moves }) {
   shown.top = showStack(shown, report);
   page.shown = shown;
   page.here = shown.mode === "running" ? [shown.top, shown.rest[0] || "$end"] : null;
-  if (!page.here) at("why-here").textContent = "";
+  if (!page.here) forget("why-here");
   showRest(shown);
   showSteps(shown.place, steps, later, report, (place) => move(`to ${place}`));
   showTree(tree.said, report);

@@ -129,7 +129,7 @@ const SHOWS = {
 
 /* Shows a part, where it is about the texts that stand there. */
 function takeTold({ part, broken, ...answer }, { files, runs }) {
-  if (broken) return say(`The module ended: ${broken}`, "bad");
+  if (broken) return endTold(broken, runs);
   const run = runs.find(({ name }) => name === part);
   if (!run) return undefined;
   const now = tellRequest().files;
@@ -138,10 +138,22 @@ function takeTold({ part, broken, ...answer }, { files, runs }) {
   return SHOWS[part](answer);
 }
 
-/* No run that was broken off is asked again for the same. */
-function giveUp() {
-  for (const { name, key } of tellRequest().runs) told.keys.set(name, key);
+/* Takes away what was told, so that it is asked again when it is wanted. */
+function forget(part) {
+  told.keys.delete(part);
+  at(part).textContent = "";
+}
+
+/* Ends what is asked; no run is asked again for the same. */
+function giveUp(runs = tellRequest().runs) {
+  for (const { name, key } of runs) told.keys.set(name, key);
   told.teller.breakOff();
+}
+
+/* A module that has ended is begun again, and not asked the same. */
+function endTold(why, runs) {
+  giveUp(runs);
+  say(`The module ended: ${why}`, "bad");
 }
 
 /* Why the cell of a state and a token says what it says. */
@@ -161,7 +173,8 @@ function tellBy(module) {
   };
   at("words").onsubmit = (event) => {
     event.preventDefault();
-    told.line = at("told-line").value.split(/\s+/).filter(Boolean);
+    const words = at("told-line").value.split(/\s+/).filter(Boolean);
+    told.line = words.length ? words : null;
     told.keys.delete("told");
     askToTell();
   };
