@@ -1,6 +1,7 @@
 //! Sessions behind handles that C can hold: each call goes on from where the last one left.
 #![tactic(auto)]
 
+pub mod expected;
 pub mod handle;
 pub mod moves;
 pub mod stands;
