@@ -7,12 +7,12 @@ C and one in Python over the library; streams that can't be read or written are 
 Python ends at them by itself. Each call gets every room up to more than it needs, null pointers
 without bytes, and things that it must refuse; each of its allocations is refused in turn; eight
 threads call at once. Parses behind handles are compared with sessions over grammars, tokens and
-command lines at random, and what they expect next is what sessions shift next. C runs as it is, with the sanitizers of the compiler (CC, or cc), and
-with valgrind where that is there. The header is compiled as C89 and as C++, both libraries export
-the calls alone, and the examples of docs/LIBRARY.md answer what stands there. A wheel of the module is
-built and used, and the tests of the crate in Rust are run. FOLDER has libsulderko.a and
-libsulderko.so.1, and the link libsulderko.so; without one they are built. The last line is `N
-passed, M failed`.
+command lines at random, and the tokens that they expect with those that sessions shift. C runs as
+it is, with the sanitizers of the compiler (CC, or cc), and with valgrind where that is there. The
+header is compiled as C89 and as C++, both libraries export the calls alone, and the examples of
+docs/LIBRARY.md answer what stands there. A wheel of the module is built and used, and the tests of
+the crate in Rust are run. FOLDER has libsulderko.a and libsulderko.so.1, and the link
+libsulderko.so; without one they are built. The last line is `N passed, M failed`.
 """
 import os
 import re

@@ -1,7 +1,9 @@
 -- What a trial of a token shows, and how it is undone.
 use Rattle.std.proofs.Common.{ℕ, zero, suc, ◌≡◌, ◌-◌, ◌+◌, ◌<◌, ◌≤◌, ◌↔◌, List, [], ◌∷◌, length}
 use Rattle.std.proofs.Common.{Option, Some, None, IsSome, IsTrue, Result, Ok, Err, Bool, true, false}
-use Rattle.std.proofs.Common.{refl, sym, subst, arith, ◌∙◌, ap}
+use Rattle.std.proofs.Common.{refl, sym, subst, arith, ◌∙◌, ap, below_more, ◌++◌, slice_index}
+use Rattle.std.proofs.Math.ListN.{get_or-append}
+use Rattle.std.proofs.Math.Seq.{get_or-append_seam}
 use Rattle.std.specs.Prelude.{is_some, unwrap_or, if◌then◌else◌}
 use Rattle.std.specs.Option.{option_map}
 use Rattle.ytokens.specs.Symbols.{is_input}
@@ -17,7 +19,7 @@ use Rattle.ymachine.specs.History.{History}
 use Rattle.ymachine.specs.Machine.{Configuration, Machine, next, next_in, edited, edited_in, edited_rest}
 use Rattle.ymachine.specs.Past.{Makes, Refuses, Steps, Changes, back_by, back_from, most_steps, position}
 use Rattle.yhandles.specs.Expected.{Brings, GoesOn, IsCutOff, IsExpected, Reduces, ReducesOn, Shows}
-use Rattle.yhandles.specs.Expected.{edits_for, taking, with_next}
+use Rattle.yhandles.specs.Expected.{IsReduction, Tells, drops_end, edits_for, taking, with_next}
 
 -- ---- values that may be missing
 
@@ -63,20 +65,21 @@ pub record Reduced (m : Machine) (h now : History) : Type 0 where
 pub reduced_none : (m : Machine) (h : History) → Reduced m h h
 reduced_none m h = record { count = 0; reduces = refl; far = omega arith }
 
-pub reduced_on : (m : Machine) (h now new : History) (rule : ℕ) → Reduced m h now
-    → Steps (next m) now (Ok (kinds.Reduce rule)) new → Reduced m h new
-reduced_on m h now new rule r s =
+pub reduced_on : (m : Machine) (h now new : History) (made : Result StepKind StepFault)
+    → Reduced m h now → Steps (next m) now made new → IsReduction made true → Reduced m h new
+reduced_on m h now new made r s is =
+    let one = subst (λ (x : Result StepKind StepFault). Steps (next m) now x new) is.1 s in
     let far = r.far in
-    let one = ap length s.1.1 in
+    let more = ap length one.1.1 in
     record {
       count = suc r.count;
-      reduces = reduces_on m r.count h.now now.now new.now rule r.reduces s.1.0;
-      far = omega (arith, far, one);
+      reduces = reduces_on m r.count h.now now.now new.now is.0 r.reduces one.1.0;
+      far = omega (arith, far, more);
     }
 
 pub reduced_end : (m : Machine) (h now new : History) (made : Result StepKind StepFault)
-    → Reduced m h now → Steps (next m) now made new
-    → ((rule : ℕ) → made ≡ Ok (kinds.Reduce rule) → ⊥) → ReducesOn m h made new
+    → Reduced m h now → Steps (next m) now made new → IsReduction made false
+    → ReducesOn m h made new
 reduced_end m h now new made r s other = record {
   count = r.count;
   at = now;
@@ -101,6 +104,12 @@ goes_on h now new kind g e =
       far = omega (arith, far, one);
       back = ap (back_from (suc g.count) new.now) e ∙ g.back;
     }
+
+-- a step, or a refused one
+pub goes_by : (m : Machine) (h now new : History) (made : Result StepKind StepFault) → GoesOn h now
+    → Steps (next m) now made new → GoesOn h new
+goes_by m h now new (Ok kind) g s = goes_on h now new kind g s.1.1
+goes_by m h now new (Err fault) g s = subst (λ (x : History). GoesOn h x) (sym s.1) g
 
 -- undos after undos
 back_add : (n k : ℕ) (now : Configuration) (earlier : List (StepKind × Configuration))
@@ -370,18 +379,6 @@ nothing_left : (m : Machine) (c : Configuration) → IsSome (next m c) → edite
 unfolding next edited
 nothing_left m c p s = nothing_in m c c.mode p s
 
--- once all are dropped, the end is next
-pub drop_done : (m : Machine) (h now : History) → Emptied h now
-    → Refuses (next m) (edited m edits.Drop) now NoToken → Brings m h 0 (Ok tt) now
-drop_done m h now was r =
-    let none = nothing_left m now.now r.0 r.1 in
-    let far = was.far in
-    let gone = ap length none in
-    (
-      ap Some (was.same ∙ ap (λ (rest : List (ℕ × ℕ)). record now.now { rest = rest }) (sym none)),
-      omega (arith, far, gone),
-    )
-
 -- a halted parse has halted without its upcoming tokens too
 halted_in : (m : Machine) (c : Configuration) (mode : Mode) → next_in m c mode ≡ None
     → next_in m (bare c) mode ≡ None
@@ -407,14 +404,21 @@ goes_bare : (m : Machine) (c : Configuration) → IsSome (edited m edits.Drop c)
 unfolding next edited
 goes_bare m c p = goes_in m c c.mode p
 
--- why a token isn't dropped, where one is upcoming, shows what is so of the end
-pub drop_fails : (m : Machine) (h now : History) (fault : StepFault) → (fault ≡ NoToken → ⊥)
-    → Emptied h now → Refuses (next m) (edited m edits.Drop) now fault → Shows m h 0 (Err fault)
-drop_fails m h now Halted other was r =
+-- what a refused drop means shows what is so of the end
+pub drops_over : (m : Machine) (h now : History) (fault : StepFault) → Emptied h now
+    → Refuses (next m) (edited m edits.Drop) now fault → Brings m h 0 (drops_end fault) now
+drops_over m h now Halted was r =
     halts m h.now (bare h.now) (bare h.now) 0 0 refl refl
     (ap (next m) was.same ∙ halted_bare m now.now r.0)
-drop_fails m h now NoToken other was r = absurd (other refl)
-drop_fails m h now Limit other was r =
+drops_over m h now NoToken was r =
+    let none = nothing_left m now.now r.0 r.1 in
+    let far = was.far in
+    let gone = ap length none in
+    (
+      ap Some (was.same ∙ ap (λ (rest : List (ℕ × ℕ)). record now.now { rest = rest }) (sym none)),
+      omega (arith, far, gone),
+    )
+drops_over m h now Limit was r =
     let far = was.far in
     let limit = r.1 in
     record {
@@ -427,4 +431,19 @@ drop_fails m h now Limit other was r =
           (goes_bare m now.now r.0);
       limit = omega (arith, far, limit);
     }
-drop_fails m h now Memory other was r = tt
+drops_over m h now Memory was r = tt
+
+-- ---- what is told
+
+-- the number of one token more
+pub told_more : (m : Machine) (h : History) (numbers : List ℕ) (number : ℕ)
+    → ((token : ℕ) → token < length numbers → Tells m h token (slice_index numbers token))
+    → Tells m h (length numbers) number → (token : ℕ) → token < length numbers + 1
+    → Tells m h token (slice_index (numbers ++ number ∷ []) token)
+told_more m h numbers number each one =
+    below_more (λ (token : ℕ). Tells m h token (slice_index (numbers ++ number ∷ []) token))
+    (length numbers)
+    (λ token below. subst (λ (n : ℕ). Tells m h token n)
+    (sym (get_or-append numbers (number ∷ []) 0 token below)) (each token below))
+    (subst (λ (n : ℕ). Tells m h (length numbers) n)
+    (sym (get_or-append_seam numbers number [] 0)) one)

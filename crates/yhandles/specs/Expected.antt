@@ -1,6 +1,6 @@
 -- Which tokens could come next, and what is told of each.
 use Rattle.std.specs.Prelude.{ℕ, suc, ◌≡◌, ◌+◌, ◌<◌, ◌≤◌, ◌↔◌, List, [], length, slice_index}
-use Rattle.std.specs.Prelude.{Option, Some, None, IsSome, Result, Ok, Err}
+use Rattle.std.specs.Prelude.{Option, Some, None, IsSome, Result, Ok, Err, Bool, true, false}
 use Prim.Native.Nat.{zero}
 use Rattle.std.specs.Option.{option_map}
 use Rattle.ymachine.specs.declared.machine.Edit.TheVariants as edits
@@ -63,6 +63,11 @@ pub record IsCutOff (m : Machine) (h : History) (token : ℕ) : Type 0 where
   pub left : IsSome (next m at)
   pub limit : most_steps ≤ position h + edits_for token h.now + count
 
+-- whether a reduction was made
+abbrev pub IsReduction : Result StepKind StepFault → Bool → Type 0
+IsReduction made true = (rule : ℕ) × (made ≡ Ok (kinds.Reduce rule))
+IsReduction made false = (rule : ℕ) → made ≡ Ok (kinds.Reduce rule) → ⊥
+
 -- reductions are made, and then comes what isn't one: another step, or why there is none
 pub record ReducesOn (m : Machine) (h : History) (made : Result StepKind StepFault) (new : History)
     : Type 0 where
@@ -71,7 +76,7 @@ pub record ReducesOn (m : Machine) (h : History) (made : Result StepKind StepFau
   pub reduces : Reduces m count h.now at.now
   pub far : position at ≡ position h + count
   pub steps : Steps (next m) at made new
-  pub other : (rule : ℕ) → made ≡ Ok (kinds.Reduce rule) → ⊥
+  pub other : IsReduction made false
 
 -- the history goes on from another: so many undos give that back
 pub record GoesOn (h new : History) : Type 0 where
@@ -86,6 +91,11 @@ Shows m h token (Err Halted) = IsExpected m h.now token → ⊥
 Shows m h token (Err NoToken) = IsExpected m h.now token → ⊥
 Shows m h token (Err Limit) = IsCutOff m h token
 Shows m h token (Err Memory) = Unit {0}
+
+-- where all upcoming tokens are to be dropped, the one refusal that means that none is left
+abbrev pub drops_end : StepFault → Result (Unit {0}) StepFault
+drops_end NoToken = Ok tt
+drops_end fault = Err fault
 
 -- the token is brought next, by as many edits as that takes; or a trial of it ends here
 abbrev pub Brings : Machine → History → ℕ → Result (Unit {0}) StepFault → History → Type 0

@@ -2,10 +2,12 @@
 
 ghost use Rattle.std.specs.Prelude.{◌≡◌, IfSome, IsTrue};
 ghost use Rattle.ytokens.specs.Symbols.{is_input};
+ghost use Rattle.ymachine.specs.History.{History};
+ghost use Rattle.ymachine.specs.Machine.{Machine};
 ghost use Rattle.ysession.specs.Session.{machine_of, history_of, setting_of};
 ghost use Rattle.yhandles.specs.Answers.{Answers};
-ghost use Rattle.yhandles.specs.Expected.{Brings, Foretold, GoesOn, ReducesOn, Says, Shows, Tells};
-ghost use Rattle.yhandles.specs.Expected.{outlook_number, taking};
+ghost use Rattle.yhandles.specs.Expected.{Brings, Foretold, GoesOn, IsReduction, ReducesOn, Says};
+ghost use Rattle.yhandles.specs.Expected.{Shows, Tells, drops_end, outlook_number, taking};
 ghost use Rattle.yhandles.specs.Texts.{Stays};
 
 use crate::handle::Handle;
@@ -68,18 +70,34 @@ fn taking(token: Sym) -> StepKind
     }
 }
 
+/// What a refused drop means where all upcoming tokens are to be dropped.
+fn drops_end(fault: StepFault) -> Result<(), StepFault>
+    ensures { result ≡ drops_end fault }
+{
+    match fault {
+        StepFault::NoToken => Ok(()),
+        StepFault::Halted | StepFault::Limit | StepFault::Memory => Err(fault),
+    }
+}
+
+/// Whether a reduction was made.
+fn is_reduction(made: Result<StepKind, StepFault>) -> bool
+    ensures { IsReduction made result }
+{
+    matches!(made, Ok(StepKind::Reduce(_)))
+}
+
 /// Takes out all upcoming tokens.
 fn drop_all(session: &mut Session) -> Result<(), StepFault>
-    ensures brings { Brings (machine_of session.old) (history_of session.old) END result
+    ensures brings { Brings (machine_of session.old) (history_of session.old) 0 result
         (history_of session.new) }
     ensures goes { GoesOn (history_of session.old) (history_of session.new) }
     ensures stays { setting_of session.new ≡ setting_of session.old }
 {
-    loop {
+    'drops: loop {
         match session.drop_next() {
             Ok(_) => {}
-            Err(StepFault::NoToken) => return Ok(()),
-            Err(fault) => return Err(fault),
+            Err(fault) => return drops_end(fault),
         }
     }
 }
@@ -121,10 +139,10 @@ fn reduce_on(session: &mut Session) -> Result<StepKind, StepFault>
     ensures goes { GoesOn (history_of session.old) (history_of session.new) }
     ensures stays { setting_of session.new ≡ setting_of session.old }
 {
-    loop {
-        match session.step() {
-            Ok(StepKind::Reduce(_)) => {}
-            made => return made,
+    'steps: loop {
+        let made = session.step();
+        if !is_reduction(made) {
+            return made;
         }
     }
 }
@@ -143,6 +161,7 @@ fn trial(session: &mut Session, token: Sym) -> Result<StepKind, StepFault>
 
 /// What a trial says of its token; `None` where memory ran out.
 fn outlook_by(token: Sym, made: Result<StepKind, StepFault>) -> Option<Outlook>
+    ensures { (m : Machine) (h : History) → Shows m h token made → IfSome result (Says m h token) }
 {
     match made {
         Ok(kind) if kind == taking(token) => Some(Outlook::Expected),
@@ -153,7 +172,7 @@ fn outlook_by(token: Sym, made: Result<StepKind, StepFault>) -> Option<Outlook>
 }
 
 /// What is known of a token; `None` where memory runs out. The session goes on as it was.
-fn outlook(session: &mut Session, token: Sym) -> Option<Outlook>
+fn outlook_of(session: &mut Session, token: Sym) -> Option<Outlook>
     ensures says { IfSome result (Says (machine_of session.old) (history_of session.old) token) }
     ensures stays { Stays session.old session.new }
 {
@@ -164,16 +183,28 @@ fn outlook(session: &mut Session, token: Sym) -> Option<Outlook>
     outlook_by(token, made)
 }
 
+/// The number that is told of a token; `None` where memory runs out. The session goes on as it was.
+fn number_of(session: &mut Session, token: Sym) -> Option<u8>
+    ensures tells { IfSome result (Tells (machine_of session.old) (history_of session.old) token) }
+    ensures stays { Stays session.old session.new }
+{
+    match outlook_of(session, token) {
+        Some(outlook) => Some(outlook_number(outlook)),
+        None => None,
+    }
+}
+
 /// What is told of each token of the grammar.
 fn foretold(alloc: Global, session: &mut Session) -> Text
     ensures { Foretold session.old result session.new }
 {
+    let count = tokens_of(session);
     let mut numbers = Vec::new(alloc);
-    for token in 0..tokens_of(session) {
-        let Some(outlook) = outlook(session, token) else {
+    for token in 0..count {
+        let Some(number) = number_of(session, token) else {
             return Err(TextFault::NoRoom);
         };
-        if numbers.push(outlook_number(outlook)).is_err() {
+        if numbers.push(number).is_err() {
             return Err(TextFault::NoRoom);
         }
     }
