@@ -1,5 +1,5 @@
 -- What a trial of a token shows, and how it is undone.
-use Rattle.std.proofs.Common.{ℕ, zero, suc, ◌≡◌, ◌-◌, ◌+◌, ◌<◌, ◌≤◌, ◌↔◌, List, [], ◌∷◌, length}
+use Rattle.std.proofs.Common.{ℕ, zero, suc, ◌≡◌, ◌-◌, ◌+◌, ◌<◌, List, [], ◌∷◌, length}
 use Rattle.std.proofs.Common.{Option, Some, None, IsSome, IsTrue, Result, Ok, Err, Bool, true, false}
 use Rattle.std.proofs.Common.{refl, sym, subst, arith, ◌∙◌, ap, below_more, ◌++◌, slice_index}
 use Rattle.std.proofs.Math.ListN.{get_or-append}
@@ -7,7 +7,6 @@ use Rattle.std.proofs.Math.Seq.{get_or-append_seam}
 use Rattle.std.specs.Prelude.{is_some, unwrap_or, if◌then◌else◌}
 use Rattle.std.specs.Option.{option_map}
 use Rattle.ytokens.specs.Symbols.{is_input}
-use Rattle.ymachine.specs.declared.machine.Edit.{Edit}
 use Rattle.ymachine.specs.declared.machine.Edit.TheVariants as edits
 use Rattle.ymachine.specs.declared.machine.Mode.{Mode}
 use Rattle.ymachine.specs.declared.machine.Mode.TheVariants.{Running, Popping, Accepted, Failed}
@@ -17,9 +16,9 @@ use Rattle.ymachine.specs.declared.machine.StepKind.{StepKind}
 use Rattle.ymachine.specs.declared.machine.StepKind.TheVariants as kinds
 use Rattle.ymachine.specs.History.{History}
 use Rattle.ymachine.specs.Machine.{Configuration, Machine, next, next_in, edited, edited_in, edited_rest}
-use Rattle.ymachine.specs.Past.{Makes, Refuses, Steps, Changes, back_by, back_from, most_steps, position}
-use Rattle.yhandles.specs.Expected.{Brings, GoesOn, IsCutOff, IsExpected, Reduces, ReducesOn, Shows}
-use Rattle.yhandles.specs.Expected.{IsReduction, Tells, drops_end, edits_for, taking, with_next}
+use Rattle.ymachine.specs.Past.{Makes, Refuses, Steps, back_by, back_from, position}
+use Rattle.yhandles.specs.Expected.{Brings, GoesOn, IsExpected, Reduces, ReducesOn, Shows}
+use Rattle.yhandles.specs.Expected.{IsReduction, Tells, drops_end, taking, with_next}
 
 -- ---- values that may be missing
 
@@ -225,19 +224,17 @@ insert_at : (m : Machine) (c : Configuration) (token : ℕ) (mode : Mode)
     × (edited_in m (edits.Insert token) c mode ≡ Some (kinds.Insert token, first))
     × IsSome (next_in m first first.mode)
 insert_at m c token Running input e p =
-    let first : Configuration = record c { rest = (token, 0) ∷ c.rest } in
-    (
+    let first : Configuration = record c { rest = (token, 0) ∷ c.rest } in (
       first,
       ap (λ (b : Bool). let made : Option (StepKind × Configuration) =
-      if b then Some (kinds.Insert token, first) else None in made) input,
+          if b then Some (kinds.Insert token, first) else None in made) input,
       subst (λ (d : Mode). IsSome (next_in m first d)) (sym e) refl,
     )
 insert_at m c token Popping input e p =
-    let first : Configuration = record c { rest = (token, 0) ∷ c.rest } in
-    (
+    let first : Configuration = record c { rest = (token, 0) ∷ c.rest } in (
       first,
       ap (λ (b : Bool). let made : Option (StepKind × Configuration) =
-      if b then Some (kinds.Insert token, first) else None in made) input,
+          if b then Some (kinds.Insert token, first) else None in made) input,
       subst (λ (d : Mode). IsSome (next_in m first d)) (sym e) refl,
     )
 insert_at m c token Accepted input e p = let bad : false ≡ true = p in cc
@@ -413,8 +410,7 @@ drops_over m h now Halted was r =
 drops_over m h now NoToken was r =
     let none = nothing_left m now.now r.0 r.1 in
     let far = was.far in
-    let gone = ap length none in
-    (
+    let gone = ap length none in (
       ap Some (was.same ∙ ap (λ (rest : List (ℕ × ℕ)). record now.now { rest = rest }) (sym none)),
       omega (arith, far, gone),
     )

@@ -1,6 +1,6 @@
 -- Which tokens could come next, and what is told of each.
 use Rattle.std.specs.Prelude.{ℕ, suc, ◌≡◌, ◌+◌, ◌<◌, ◌≤◌, ◌↔◌, List, [], length, slice_index}
-use Rattle.std.specs.Prelude.{Option, Some, None, IsSome, Result, Ok, Err, Bool, true, false}
+use Rattle.std.specs.Prelude.{Option, Some, IsSome, Result, Ok, Err, Bool, true, false}
 use Prim.Native.Nat.{zero}
 use Rattle.std.specs.Option.{option_map}
 use Rattle.ymachine.specs.declared.machine.Edit.TheVariants as edits
