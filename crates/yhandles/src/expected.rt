@@ -216,12 +216,5 @@ fn foretold(alloc: Global, session: &mut Session) -> Text
 pub fn expected(alloc: Global, handle: &mut Handle) -> Option<Text>
     ensures { Answers Foretold handle.old.session result handle.new.session }
 {
-    match handle.take(alloc) {
-        Some(mut held) => {
-            let answer = foretold(alloc, &mut held);
-            handle.put(alloc, held);
-            Some(answer)
-        }
-        None => None,
-    }
+    of_held!(alloc, handle, |held| foretold(alloc, &mut held))
 }
