@@ -138,6 +138,13 @@ typedef struct sulderko_move {
   size_t subject;    /* the number of its symbol or rule, as the table has it; else 0 */
 } sulderko_move;
 
+/* What is known of a token that might come next. */
+enum sulderko_outlook {
+  SULDERKO_UNEXPECTED = 0, /* it can't come */
+  SULDERKO_EXPECTED = 1,   /* it could come */
+  SULDERKO_UNTOLD = 2      /* the limit of positions comes before that shows */
+};
+
 /* The modes of a parse. */
 enum sulderko_mode {
   SULDERKO_RUNNING = 1,      /* it does what the table says */
@@ -222,6 +229,15 @@ unsigned int sulderko_to(sulderko_handle *handle, size_t position);
 
 /* Tells where the session stands. */
 unsigned int sulderko_state(sulderko_handle *handle, sulderko_place *place);
+
+/* Which tokens could come next. There is a byte for each token of the grammar, and the one at index
+   i, one of sulderko_outlook, is that of the token with the number i, as the table has it. A token
+   is expected where, inserted now, it would be shifted after reductions alone; $end, number 0,
+   where with no upcoming token the input would be accepted after reductions alone. That is tried,
+   token by token, and all of it undone: the session goes on as it was. error, number 1, is never
+   expected, and none is where the parse is popping or has halted. */
+unsigned int sulderko_expected(sulderko_handle *handle, unsigned char *out, size_t room,
+                               size_t *len);
 
 /* The text of the configuration, as ystep replies to `show`. */
 unsigned int sulderko_show(sulderko_handle *handle, char *out, size_t room, size_t *len);

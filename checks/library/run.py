@@ -7,12 +7,12 @@ C and one in Python over the library; streams that can't be read or written are 
 Python ends at them by itself. Each call gets every room up to more than it needs, null pointers
 without bytes, and things that it must refuse; each of its allocations is refused in turn; eight
 threads call at once. Parses behind handles are compared with sessions over grammars, tokens and
-command lines at random. C runs as it is, with the sanitizers of the compiler (CC, or cc), and
-with valgrind where that is there. The header is compiled as C89 and as C++, both libraries export
-the calls alone, and the examples of docs/LIBRARY.md answer what stands there. A wheel of the module is
-built and used, and the tests of the crate in Rust are run. FOLDER has libsulderko.a and
-libsulderko.so.1, and the link libsulderko.so; without one they are built. The last line is `N
-passed, M failed`.
+command lines at random, and the tokens that they expect with those that sessions shift. C runs as
+it is, with the sanitizers of the compiler (CC, or cc), and with valgrind where that is there. The
+header is compiled as C89 and as C++, both libraries export the calls alone, and the examples of
+docs/LIBRARY.md answer what stands there. A wheel of the module is built and used, and the tests of
+the crate in Rust are run. FOLDER has libsulderko.a and libsulderko.so.1, and the link
+libsulderko.so; without one they are built. The last line is `N passed, M failed`.
 """
 import os
 import re
@@ -36,7 +36,7 @@ SOURCES, HEADERS, MODULE = DATA / "library", TOP / "include", TOP / "bindings/py
 PAGE = TOP / "docs/LIBRARY.md"
 STATIC, SHARED = "libsulderko.a", "libsulderko.so.1"
 CALLS = "session table report code tokens judge fault open close step back to insert drop"
-CALLS = {f"sulderko_{it}" for it in f"{CALLS} state show tree unwind".split()}
+CALLS = {f"sulderko_{it}" for it in f"{CALLS} state expected show tree unwind".split()}
 STRICT = ["-std=c99", "-Wall", "-Wextra", "-Wpedantic", "-Wconversion", "-Werror"]
 CHECKED = ["-g", "-O1", "-fsanitize=address,undefined", "-fno-sanitize-recover=all"]
 WRAPPED = ["-Wl,--wrap=malloc", "-Wl,--wrap=realloc", "-Wl,--wrap=free"]
@@ -155,6 +155,8 @@ def compare_module(folder, tally):
     files = at / "grammar.y", at / "tokens", at / "session/stdin", at / "session/stdout"
     count("the module", python(folder, SOURCES / "module.py", *files), tally)
     count("handles", python(folder, SOURCES / "handles.py", 1, 300), tally)
+    files = (it for at in EXAMPLES.glob("*/tokens") for it in (at.with_name("grammar.y"), at))
+    count("expected", python(folder, SOURCES / "expected.py", 1, 150, *files), tally)
 
 
 def examples_of(text):

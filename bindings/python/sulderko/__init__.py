@@ -15,8 +15,8 @@ The library is the file that the variable SULDERKO_LIBRARY names; else libsulder
 module, where a wheel has it, or in the folder bin of the checkout that holds this module; else the
 one that the system finds.
 """
-from sulderko.answers import Code, Conflicts, Fault, Kind, Mode, Move, Outcome, Place, Reason
-from sulderko.answers import Refused, TooManySets, Verdict
+from sulderko.answers import Code, Conflicts, Fault, Kind, Mode, Move, Outcome, Outlook, Place
+from sulderko.answers import Reason, Refused, TooManySets, Verdict
 from sulderko.calls import code, conflicts, fault, judge, report, session, table, tokens
 from sulderko.sessions import Session
 from sulderko.stepper import Stepper
@@ -29,6 +29,7 @@ __all__ = [
     "Mode",
     "Move",
     "Outcome",
+    "Outlook",
     "Place",
     "Reason",
     "Refused",

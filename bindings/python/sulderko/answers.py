@@ -119,6 +119,15 @@ class Move:
     subject: int
 
 
+class Outlook(IntEnum):
+    """What is known of a token that might come next: it can't come; it could come; or the limit of
+    positions comes before that shows."""
+
+    UNEXPECTED = 0
+    EXPECTED = 1
+    UNTOLD = 2
+
+
 class Mode(IntEnum):
     """What a parse is doing."""
 

@@ -72,6 +72,12 @@ def table(grammar: Text) -> bytes:
     return of_tables("table", grammar)[0]
 
 
+def symbol_names(grammar: Text) -> List[bytes]:
+    """The names of the symbols of a grammar, by the numbers of its table: the tokens first."""
+    lines = table(grammar).split(b"\n")
+    return [line.split(b" ", 3)[3] for line in lines[2 : 2 + int(lines[1].split()[1])]]
+
+
 def report(grammar: Text) -> bytes:
     """The report on a grammar, as `yacc -v` writes it."""
     return of_tables("report", grammar)[0]

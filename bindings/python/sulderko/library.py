@@ -94,6 +94,7 @@ FORMS = {
     "drop": HANDLE + [POINTER(Move)],
     "to": HANDLE + [c_size_t],
     "state": HANDLE + [POINTER(Place)],
+    "expected": HANDLE + BYTES,
     "show": HANDLE + BYTES,
     "tree": HANDLE + BYTES,
     "unwind": HANDLE + BYTES,

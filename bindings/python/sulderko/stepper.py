@@ -3,11 +3,11 @@ from __future__ import annotations
 
 from ctypes import byref, c_char, c_size_t
 from types import TracebackType
-from typing import Any, Iterator, Optional, Type
+from typing import Any, Iterator, List, Optional, Type
 
 from sulderko import library
-from sulderko.answers import Kind, Mode, Move, Place, Reason, Refused
-from sulderko.calls import FIRST_ROOM, Text, as_bytes, called, given, look
+from sulderko.answers import Kind, Mode, Move, Outlook, Place, Reason, Refused
+from sulderko.calls import FIRST_ROOM, Text, as_bytes, called, given, look, symbol_names
 
 MOST_FORMS = 1 << 24
 
@@ -22,7 +22,7 @@ class Stepper:
 
     def __init__(self, grammar: Text, tokens: Text):
         """The start of a parse. A fault of the grammar or of the tokens is raised here."""
-        self.handle = library.Handle()
+        self.handle, self.grammar = library.Handle(), as_bytes(grammar)
         look(called("open", *given(grammar, tokens), byref(self.handle)), grammar, tokens)
 
     def __enter__(self) -> Stepper:
@@ -97,6 +97,18 @@ class Stepper:
         self.asked("state", byref(found))
         names = "position", "state", "height", "left", "counter", "errors"
         return Place(Mode(found.mode), *(getattr(found, it) for it in names))
+
+    def outlooks(self) -> List[Outlook]:
+        """What is known of each token as the next one, by the numbers of the table. A token that
+        is inserted now is shifted after reductions alone, or it isn't; `$end`, number 0, is
+        accepted so where no token is upcoming."""
+        return [Outlook(it) for it in self.text("expected", FIRST_ROOM)]
+
+    def expected(self) -> List[bytes]:
+        """The names of the tokens that could come next; those for which the limit of positions
+        comes before that shows are left out. The names are read anew from the table each time."""
+        known = zip(symbol_names(self.grammar), self.outlooks())
+        return [name for name, outlook in known if outlook == Outlook.EXPECTED]
 
     def show(self) -> bytes:
         """The configuration, as `ystep` replies to `show`."""

@@ -98,6 +98,21 @@ static unsigned int parse(answer *it) {
   return status;
 }
 
+/* Which tokens could come next after three steps. */
+static unsigned int outlooks(answer *it) {
+  sulderko_handle handle = SULDERKO_CLOSED;
+  sulderko_move move;
+  unsigned int status =
+      sulderko_open(GRAMMAR, strlen(GRAMMAR), TOKENS, strlen(TOKENS), &handle);
+  int at;
+  for (at = 0; at < 3 && status == SULDERKO_DONE; at++)
+    status = sulderko_step(&handle, &move);
+  if (status == SULDERKO_DONE)
+    status = sulderko_expected(&handle, (unsigned char *)it->text, MOST, &it->len);
+  sulderko_close(&handle);
+  return status;
+}
+
 /* Whether an answer is what it may be where memory ran out: that alone, with nothing handed over;
  * all of it; or the replies of a session that says so. */
 static int may_be(unsigned int status, int is_session) {
@@ -141,8 +156,8 @@ static void each_refused(unsigned int (*call)(answer *)) {
 }
 
 int main(void) {
-  unsigned int (*const calls[])(answer *) = {session, table, report, code,
-                                                tokens, verdict, fault, parse};
+  unsigned int (*const calls[])(answer *) = {session,  table, report, code,    tokens,
+                                                verdict,  fault, parse,  outlooks};
   size_t at;
   memset(&blank, CANARY, sizeof blank);
   for (at = 0; at < sizeof calls / sizeof *calls; at++)

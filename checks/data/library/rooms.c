@@ -81,6 +81,25 @@ static unsigned int code(const asked *it, char *out, size_t room, size_t *len) {
   return status;
 }
 
+/* Which tokens could come first, as a byte for each. */
+static unsigned int expected(const asked *it, char *out, size_t room, size_t *len) {
+  sulderko_handle handle = SULDERKO_CLOSED;
+  unsigned int status = sulderko_open(it->grammar, strlen(it->grammar), it->tokens,
+                                      strlen(it->tokens), &handle);
+  *len = 0;
+  if (status == SULDERKO_DONE)
+    status = sulderko_expected(&handle, (unsigned char *)out, room, len);
+  sulderko_close(&handle);
+  return status;
+}
+
+/* On a handle without a session likewise. */
+static unsigned int closed(const asked *it, char *out, size_t room, size_t *len) {
+  sulderko_handle handle = SULDERKO_CLOSED;
+  (void)it;
+  return sulderko_expected(&handle, (unsigned char *)out, room, len);
+}
+
 /* Whether bytes are as they were before the call. */
 static int untouched(const char *out, size_t from, size_t to) {
   for (; from < to; from++)
@@ -161,6 +180,18 @@ static void arrays(void) {
        "arrays", 3);
 }
 
+/* At its start the grammar takes NUM alone: tokens are $end, error, NUM and '+'. */
+static void outlooks(void) {
+  static const unsigned char first[] = {SULDERKO_UNEXPECTED, SULDERKO_UNEXPECTED,
+                                        SULDERKO_EXPECTED, SULDERKO_UNEXPECTED};
+  const asked it = {"expected", expected, GRAMMAR, TOKENS}, none = {"closed", closed, "", ""};
+  unsigned char out[9];
+  size_t len;
+  hold(it.call(&it, (char *)out, 9, &len) == SULDERKO_DONE && len == 4 && !memcmp(out, first, 4),
+       it.name, 0);
+  refused(&none, SULDERKO_NO_SESSION);
+}
+
 static void counts(void) {
   sulderko_conflicts it;
   size_t len;
@@ -175,7 +206,8 @@ int main(int argc, char **argv) {
                          {"table", table, GRAMMAR, ""},
                          {"report", report, GRAMMAR, ""},
                          {"code", code, GRAMMAR, ""},
-                         {"tokens", tokens, GRAMMAR, TOKENS}};
+                         {"tokens", tokens, GRAMMAR, TOKENS},
+                         {"expected", expected, GRAMMAR, TOKENS}};
   size_t at;
   for (at = 0; at < sizeof texts / sizeof *texts; at++) {
     asked bad = texts[at];
@@ -183,13 +215,14 @@ int main(int argc, char **argv) {
     bad.grammar = BROKEN;
     refused(&bad, SULDERKO_BAD_GRAMMAR);
     bad.grammar = GRAMMAR, bad.tokens = "NUM NIM";
-    if (bad.call == session || bad.call == tokens)
+    if (bad.call == session || bad.call == tokens || bad.call == expected)
       refused(&bad, SULDERKO_BAD_TOKENS);
   }
   verdicts();
   faults();
   arrays();
   counts();
+  outlooks();
   printf("%lu passed, %lu failed\n", passed, failed);
   return failed != 0;
 }

@@ -2,6 +2,7 @@
 
 ghost use Rattle.std.specs.Prelude.{◌≡◌, ◌≢◌, IfErr, is_ok, true, None};
 ghost use Rattle.ymachine.specs.declared.machine.Edit.TheVariants as edits;
+ghost use Rattle.yhandles.specs.Expected.{Foretold};
 ghost use Rattle.yhandles.specs.Moves.{Edited, Inserted, Stepped, Undone};
 ghost use Rattle.yhandles.specs.Texts.{Showed, Treed, Unwound, text_status};
 ghost use Rattle.yembed.specs.Handles.{Hands, Moves, Opens, Stands, Texts, Travels};
@@ -13,6 +14,7 @@ use crate::refusal::Refusal;
 use crate::sources::session_of;
 use std::alloc::Global;
 use yhandles::Handle;
+use yhandles::expected::expected;
 use yhandles::moves::{self, Move, tell};
 use yhandles::stands::{self, Standing};
 use yhandles::texts::{self, Text, text_status};
@@ -126,6 +128,20 @@ pub extern "C" fn sulderko_to(alloc: Global, handle: &mut Handle, position: usiz
     ensures { Travels position handle.old.session handle.new.session result }
 {
     travel_status(travel(alloc, handle, position))
+}
+
+/// Which tokens could come next: a byte for each, 1 where it could, 0 where it can't, 2 where the
+/// limit of positions comes before that shows. The session goes on as it was.
+#[unsafe(no_mangle)]
+pub extern "C" fn sulderko_expected(
+    alloc: Global,
+    handle: &mut Handle,
+    out: &mut [u8],
+    len: &mut usize,
+) -> u32
+    ensures { Texts Foretold handle.old.session handle.new.session result out.old out.new len.new }
+{
+    hand(expected(alloc, handle), out, len)
 }
 
 /// The five lines of the configuration, as `ystep` replies to `show`.

@@ -16,6 +16,22 @@ ghost use Rattle.yembed.specs.Sessions.{IsSession};
 ghost use Rattle.yembed.specs.Texts.{IsReport, IsTable};
 ghost use Rattle.yembed.specs.Verdicts.{AreTokens, IsJudged};
 
+// What is found is handed over; or it is refused, and nothing is.
+macro_rules! handed_over {
+    ($found:expr, $len:ident, $whole:ident => { $($put:tt)* }) => {
+        match $found {
+            Ok($whole) => {
+                $($put)*
+                0
+            }
+            Err(refusal) => {
+                *$len = 0;
+                refusal.status()
+            }
+        }
+    };
+}
+
 mod codes;
 mod faults;
 pub mod handles;
@@ -48,16 +64,9 @@ pub extern "C" fn sulderko_session(
     ensures refused { result ≢ 0 → IsRefused (Refuses grammar.now tokens.now) result }
     ensures nothing { result ≢ 0 → HandsNothing out.old out.new len.new }
 {
-    match session_text(alloc, grammar, tokens, commands) {
-        Ok(text) => {
-            *len = put_bytes(&text, out);
-            0
-        }
-        Err(refusal) => {
-            *len = 0;
-            refusal.status()
-        }
-    }
+    handed_over!(session_text(alloc, grammar, tokens, commands), len, text => {
+        *len = put_bytes(&text, out);
+    })
 }
 
 /// The table of a grammar, as the program `yacc` writes it, and its conflicts.
@@ -75,17 +84,10 @@ pub extern "C" fn sulderko_table(
     ensures nothing { result ≢ 0 → HandsNothing out.old out.new len.new }
     ensures stays { result ≢ 0 → conflicts.new ≡ conflicts.old }
 {
-    match table_text(alloc, grammar) {
-        Ok(written) => {
-            *len = put_bytes(&written.text, out);
-            *conflicts = written.conflicts;
-            0
-        }
-        Err(refusal) => {
-            *len = 0;
-            refusal.status()
-        }
-    }
+    handed_over!(table_text(alloc, grammar), len, written => {
+        *len = put_bytes(&written.text, out);
+        *conflicts = written.conflicts;
+    })
 }
 
 /// The report on a grammar, as the program `yacc` writes it, and its conflicts.
@@ -103,17 +105,10 @@ pub extern "C" fn sulderko_report(
     ensures nothing { result ≢ 0 → HandsNothing out.old out.new len.new }
     ensures stays { result ≢ 0 → conflicts.new ≡ conflicts.old }
 {
-    match report_text(alloc, grammar) {
-        Ok(written) => {
-            *len = put_bytes(&written.text, out);
-            *conflicts = written.conflicts;
-            0
-        }
-        Err(refusal) => {
-            *len = 0;
-            refusal.status()
-        }
-    }
+    handed_over!(report_text(alloc, grammar), len, written => {
+        *len = put_bytes(&written.text, out);
+        *conflicts = written.conflicts;
+    })
 }
 
 /// An array of the parser in C by the tables of a grammar, as the program `ycc` writes it, and the
@@ -134,17 +129,10 @@ pub extern "C" fn sulderko_code(
     ensures nothing { result ≢ 0 → HandsNothing out.old out.new len.new }
     ensures stays { result ≢ 0 → sizes.new ≡ sizes.old }
 {
-    match arrays_of(alloc, grammar) {
-        Ok(code) => {
-            *len = put_numbers(array_of(&code, array), out);
-            *sizes = sizes_of(&code);
-            0
-        }
-        Err(refusal) => {
-            *len = 0;
-            refusal.status()
-        }
-    }
+    handed_over!(arrays_of(alloc, grammar), len, code => {
+        *len = put_numbers(array_of(&code, array), out);
+        *sizes = sizes_of(&code);
+    })
 }
 
 /// The numbers of the symbols that a text of tokens names, one after another, by the table of the
@@ -162,16 +150,9 @@ pub extern "C" fn sulderko_tokens(
     ensures refused { result ≢ 0 → IsRefused (Refuses grammar.now tokens.now) result }
     ensures nothing { result ≢ 0 → HandsNothing out.old out.new len.new }
 {
-    match tokens_of(alloc, grammar, tokens) {
-        Ok(found) => {
-            *len = put_numbers(&found.symbols, out);
-            0
-        }
-        Err(refusal) => {
-            *len = 0;
-            refusal.status()
-        }
-    }
+    handed_over!(tokens_of(alloc, grammar, tokens), len, found => {
+        *len = put_numbers(&found.symbols, out);
+    })
 }
 
 /// The verdict on tokens: whether they are a sentence of the grammar.

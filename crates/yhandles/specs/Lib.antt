@@ -1,4 +1,5 @@
 pub mod Answers
+pub mod Expected
 pub mod Handles
 pub mod Moves
 pub mod Stands

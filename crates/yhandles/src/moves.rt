@@ -163,28 +163,14 @@ fn drop_from(session: &mut Session) -> Answer
 pub fn step(alloc: Global, handle: &mut Handle) -> Option<Answer>
     ensures { Answers Stepped handle.old.session result handle.new.session }
 {
-    match handle.take(alloc) {
-        Some(mut held) => {
-            let answer = step_of(&mut held);
-            handle.put(alloc, held);
-            Some(answer)
-        }
-        None => None,
-    }
+    of_held!(alloc, handle, |held| step_of(&mut held))
 }
 
 /// One undo of the session behind a handle, or `None` where there is none.
 pub fn back(alloc: Global, handle: &mut Handle) -> Option<Answer>
     ensures { Answers Undone handle.old.session result handle.new.session }
 {
-    match handle.take(alloc) {
-        Some(mut held) => {
-            let answer = undo_of(&mut held);
-            handle.put(alloc, held);
-            Some(answer)
-        }
-        None => None,
-    }
+    of_held!(alloc, handle, |held| undo_of(&mut held))
 }
 
 /// The token that the bytes spell comes before the upcoming tokens of the session behind a handle;
@@ -192,14 +178,7 @@ pub fn back(alloc: Global, handle: &mut Handle) -> Option<Answer>
 pub fn insert(alloc: Global, handle: &mut Handle, bytes: &[u8]) -> Option<Answer>
     ensures { Answers (Inserted bytes.now) handle.old.session result handle.new.session }
 {
-    match handle.take(alloc) {
-        Some(mut held) => {
-            let answer = insert_into(&mut held, bytes);
-            handle.put(alloc, held);
-            Some(answer)
-        }
-        None => None,
-    }
+    of_held!(alloc, handle, |held| insert_into(&mut held, bytes))
 }
 
 /// The first of the upcoming tokens of the session behind a handle is taken out; `None` where there
@@ -207,12 +186,5 @@ pub fn insert(alloc: Global, handle: &mut Handle, bytes: &[u8]) -> Option<Answer
 pub fn drop_next(alloc: Global, handle: &mut Handle) -> Option<Answer>
     ensures { Answers (Edited edits.Drop) handle.old.session result handle.new.session }
 {
-    match handle.take(alloc) {
-        Some(mut held) => {
-            let answer = drop_from(&mut held);
-            handle.put(alloc, held);
-            Some(answer)
-        }
-        None => None,
-    }
+    of_held!(alloc, handle, |held| drop_from(&mut held))
 }

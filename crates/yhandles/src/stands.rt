@@ -61,12 +61,5 @@ fn stand_of(session: &Session) -> Standing
 pub fn stand(alloc: Global, handle: &mut Handle) -> Option<Standing>
     ensures { Answers Stands handle.old.session result handle.new.session }
 {
-    match handle.take(alloc) {
-        Some(held) => {
-            let answer = stand_of(&held);
-            handle.put(alloc, held);
-            Some(answer)
-        }
-        None => None,
-    }
+    of_held!(alloc, handle, |held| stand_of(&held))
 }

@@ -80,40 +80,19 @@ fn forms(alloc: Global, session: &mut Session) -> Text
 pub fn show(alloc: Global, handle: &mut Handle) -> Option<Text>
     ensures { Answers Showed handle.old.session result handle.new.session }
 {
-    match handle.take(alloc) {
-        Some(held) => {
-            let answer = configuration(alloc, &held);
-            handle.put(alloc, held);
-            Some(answer)
-        }
-        None => None,
-    }
+    of_held!(alloc, handle, |held| configuration(alloc, &held))
 }
 
 /// A line for each tree of its stack.
 pub fn tree(alloc: Global, handle: &mut Handle) -> Option<Text>
     ensures { Answers Treed handle.old.session result handle.new.session }
 {
-    match handle.take(alloc) {
-        Some(mut held) => {
-            let answer = trees(alloc, &mut held);
-            handle.put(alloc, held);
-            Some(answer)
-        }
-        None => None,
-    }
+    of_held!(alloc, handle, |held| trees(alloc, &mut held))
 }
 
 /// Its forms, the last one first; it then stands at its start.
 pub fn unwind(alloc: Global, handle: &mut Handle) -> Option<Text>
     ensures { Answers Unwound handle.old.session result handle.new.session }
 {
-    match handle.take(alloc) {
-        Some(mut held) => {
-            let answer = forms(alloc, &mut held);
-            handle.put(alloc, held);
-            Some(answer)
-        }
-        None => None,
-    }
+    of_held!(alloc, handle, |held| forms(alloc, &mut held))
 }

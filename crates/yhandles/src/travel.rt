@@ -28,7 +28,7 @@ fn go_up(session: &mut Session, count: usize) -> Option<StepFault>
 }
 
 /// At most so many undos.
-fn go_down(session: &mut Session, count: usize)
+pub(crate) fn go_down(session: &mut Session, count: usize)
     ensures downs { history_of session.new ≡ back_by count (history_of session.old) }
     ensures stays { setting_of session.new ≡ setting_of session.old }
 {
@@ -57,14 +57,7 @@ fn travelled(session: &mut Session, position: usize) -> Option<StepFault>
 pub fn travel(alloc: Global, handle: &mut Handle, position: usize) -> Option<Option<StepFault>>
     ensures { Answers (Travelled position) handle.old.session result handle.new.session }
 {
-    match handle.take(alloc) {
-        Some(mut held) => {
-            let answer = travelled(&mut held, position);
-            handle.put(alloc, held);
-            Some(answer)
-        }
-        None => None,
-    }
+    of_held!(alloc, handle, |held| travelled(&mut held, position))
 }
 
 /// The status of the answer: 0 where the position is reached, 12 where there is no session.

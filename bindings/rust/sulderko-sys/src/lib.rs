@@ -2,7 +2,7 @@
 //! crate `sulderko` has them for Rust.
 #![no_std]
 
-use core::ffi::{c_char, c_uint, c_void};
+use core::ffi::{c_char, c_uchar, c_uint, c_void};
 
 /// All was handed over.
 pub const DONE: c_uint = 0;
@@ -31,6 +31,13 @@ pub const NOT_ACCEPTED: c_uint = 10;
 pub const HAD_ERROR: c_uint = 11;
 /// The handle has no session.
 pub const NO_SESSION: c_uint = 12;
+
+/// The token can't come next.
+pub const UNEXPECTED: c_uchar = 0;
+/// The token could come next.
+pub const EXPECTED: c_uchar = 1;
+/// The limit of positions comes before it shows whether the token could come next.
+pub const UNTOLD: c_uchar = 2;
 
 /// How many conflicts the cells of a grammar's tables count.
 #[repr(C)]
@@ -202,6 +209,12 @@ extern "C" {
     pub fn sulderko_drop(handle: *mut Handle, made: *mut Move) -> c_uint;
     pub fn sulderko_to(handle: *mut Handle, position: usize) -> c_uint;
     pub fn sulderko_state(handle: *mut Handle, place: *mut Place) -> c_uint;
+    pub fn sulderko_expected(
+        handle: *mut Handle,
+        out: *mut c_uchar,
+        room: usize,
+        len: *mut usize,
+    ) -> c_uint;
     pub fn sulderko_show(
         handle: *mut Handle,
         out: *mut c_char,

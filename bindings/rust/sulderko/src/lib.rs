@@ -16,4 +16,4 @@ mod stepper;
 
 pub use answers::{Array, Conflicts, Error, Fault, Outcome, Sizes, Verdict};
 pub use calls::{code, fault, judge, report, session, table, tokens};
-pub use stepper::{Move, Place, Refused, Stepper};
+pub use stepper::{Move, Outlook, Place, Refused, Stepper};

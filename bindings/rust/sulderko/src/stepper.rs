@@ -39,6 +39,26 @@ pub enum Refused {
     HadError,
 }
 
+/// What is known of a token that might come next.
+#[derive(Clone, Copy, Debug, PartialEq, Eq)]
+pub enum Outlook {
+    /// It can't come.
+    Unexpected,
+    /// It could come.
+    Expected,
+    /// The limit of positions comes before that shows.
+    Untold,
+}
+
+/// What a byte says.
+fn outlook(told: u8) -> Outlook {
+    match told {
+        sys::UNEXPECTED => Outlook::Unexpected,
+        sys::EXPECTED => Outlook::Expected,
+        _ => Outlook::Untold,
+    }
+}
+
 /// What a status says.
 fn refused(status: c_uint) -> Refused {
     match status {
@@ -122,6 +142,18 @@ impl Stepper {
         // SAFETY: the handle is as a call left it. It has a session, so nothing is refused.
         unsafe { sys::sulderko_state(&mut self.handle, &mut place) };
         place
+    }
+
+    /// What is known of each token as the next one, by the numbers of the table. A token that is
+    /// inserted now is shifted after reductions alone, or it isn't; `$end`, number 0, is accepted
+    /// so where no token is upcoming.
+    pub fn expected(&mut self) -> Result<Vec<Outlook>, Refused> {
+        let handle: *mut sys::Handle = &mut self.handle;
+        // SAFETY: the handle is as a call left it, and the room has that length.
+        let told = handed(|out: *mut u8, room, len| unsafe {
+            sys::sulderko_expected(handle, out, room, len)
+        });
+        Ok(told.map_err(refused)?.into_iter().map(outlook).collect())
     }
 
     /// The configuration, as `ystep` replies to `show`.

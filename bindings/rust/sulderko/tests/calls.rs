@@ -95,3 +95,16 @@ fn a_parse_goes_forward_and_back() {
     assert_eq!(parse.back(), Err(sulderko::Refused::AtStart));
     assert!(parse.show().expect("a text").starts_with(b"0 running\n"));
 }
+
+#[test]
+fn a_parse_tells_which_tokens_could_come() {
+    use sulderko::Outlook::{Expected, Unexpected};
+    let mut parse = sulderko::Stepper::new(GRAMMAR, b"NUM ';'").expect("a parse");
+    let told = |parse: &mut sulderko::Stepper| parse.expected().expect("outlooks");
+    assert_eq!(told(&mut parse), [Expected, Unexpected, Expected, Unexpected]);
+    parse.to(2).expect("two steps");
+    assert_eq!(told(&mut parse), [Unexpected, Unexpected, Unexpected, Expected]);
+    assert_eq!(parse.place().position, 2);
+    parse.to(5).expect("all steps");
+    assert_eq!(told(&mut parse), [Unexpected; 4]);
+}
