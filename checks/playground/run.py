@@ -8,14 +8,14 @@ PAGE, which is bin/playground.html unless given; so do the reports of the scenar
 the replies to command lines over N grammars drawn at random (2,000), beside those of `ystep`. What
 the script of the page reads in these texts is compared with what stands there, and so is what
 docs/COURSE.md says is to be seen. `ydebug` in the module that is in FILE, bin/playground.wasm
-unless given, is run on the scenarios of `ydebug` that write no files, and on grammars drawn at
-random (300, or N by --forms) beside the program, byte for byte. The heap gives blocks at random, over memory of this machine. In
-the browser each example is stepped through by the keys, to the end and back; a fault is typed, a
-token is inserted and one dropped, an accepted parse unwound, an address opened, files are dropped,
-and an answer that takes long is broken off. With --install Debian's chromium and chromium-driver
-are installed by apt-get where they are missing. A line says what is skipped where node, `ystep`,
-`ydebug` or a browser isn't there. Pictures are kept in FOLDER, which is `screenshots` unless given. The last
-line is `N passed, M failed`.
+unless given, is run on the scenarios of `ydebug` that write no files, and beside the program on
+grammars drawn at random (300, or N by --forms), byte for byte. The heap gives blocks at random,
+over memory of this machine. In the browser each example is stepped through by the keys, to the end
+and back; a fault is typed, a token is inserted and one dropped, an accepted parse unwound, an
+address opened, files are dropped, and an answer that takes long is broken off. With --install
+Debian's chromium and chromium-driver are installed by apt-get where they are missing. A line says
+what is skipped where node, `ystep`, `ydebug` or a browser isn't there. Pictures are kept in FOLDER,
+which is `screenshots` unless given. The last line is `N passed, M failed`.
 """
 import gzip
 import re

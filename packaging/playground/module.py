@@ -1,4 +1,4 @@
-"""Makes the module of the playground: the library and `ydebug` over files in memory, in WebAssembly.
+"""Makes the module of the playground: the library, and `ydebug` over files in memory.
 
 The crates yembed and yplayground are proved and compiled as static libraries, and what the backend
 hands to clang is kept on its way. As LLVM's text each is given the machine of WebAssembly, and

@@ -1,8 +1,8 @@
 """Gives LLVM's text a shuffle of bytes of its own, in place of the instruction `pshufb` of x86.
 
-The backend writes the instruction by its name in LLVM where code looks 16 bytes up at once. It takes
-16 bytes and 16 places. For each place the result has the byte at its lowest four bits, or 0 where
-its highest bit is set. The function below does that byte by byte, and any machine has it.
+The backend writes the instruction by its name in LLVM where code looks 16 bytes up at once. It
+takes 16 bytes and 16 places. For each place the result has the byte at its lowest four bits, or 0
+where its highest bit is set. The function below does that byte by byte, and any machine has it.
 """
 import re
 

@@ -1,7 +1,7 @@
 "use strict";
-/* Answers lines of JSON by `ydebug` in a module: { words, files, input }, each as it is laid out for
-   the call, in base64. The answer is a line { status, out, errors }, or { broken } where the module
-   trapped; the next line then gets a module of its own. */
+/* Answers lines of JSON by `ydebug` in a module: { words, files, input }, each as it is laid out
+   for the call, in base64. The answer is a line { status, out, errors }, or { broken } where the
+   module trapped; the next line then gets a module of its own. */
 const { createInterface } = require("readline");
 const { readFileSync } = require("fs");
 
