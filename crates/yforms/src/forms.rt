@@ -299,9 +299,10 @@ pub fn arguments_of(form: Form) -> &'static [&'static str] {
     }
 }
 
-/// The command line of a form. Help on the first one names the others.
-pub fn command_of<'a>(alloc: Global, form: Form) -> Result<Command<'a>, AllocError> {
-    let mut command = Command::new(alloc, form.name()).about(about(form));
+/// The command line of a form, which the program has under this name. Help on the first one names
+/// the others.
+pub fn command_of<'a>(alloc: Global, name: &'a str, form: Form) -> Result<Command<'a>, AllocError> {
+    let mut command = Command::new(alloc, name).about(about(form));
     for word in arguments_of(form) {
         command = command.arg(argument(alloc, *word))?;
     }

@@ -109,7 +109,7 @@ impl<F: Files + AllocGlobal + Clone + Drop, R: Read + Drop, E: Write> Given<'_, 
     /// Does what the words of a form ask for.
     fn obey_form<W: Write>(&mut self, form: Form, words: &[&str], out: &mut W) -> Ended {
         let alloc = self.rt.alloc();
-        let matches = matches_by(alloc, command_of(alloc, form)?, words, out)?;
+        let matches = matches_by(alloc, command_of(alloc, form.name(), form)?, words, out)?;
         let asked = asked_in(form, &matches)?;
         let status = self.answer(asked, out)?;
         out.flush()?;
