@@ -88,6 +88,8 @@ def reason_against(scenario):
         return "a stream of it is a device"
     if any(it.startswith("/") for it in scenario.words):
         return "it names a device"
+    if any(it.startswith("./") for it in scenario.words):
+        return "it names a file by another path"
     return None
 
 

@@ -250,7 +250,8 @@ class TheForms(Planted):
     def test_reasons(self):
         """What can't be run is left out with its reason, and all else is run."""
         others = [{"wanted": {"left/new": b""}}, {"links": {"a": "b"}},
-                  {"streams": {"stdin": "/dev/zero"}}, {"words": ["ydebug", "/dev/null"]}]
+                  {"streams": {"stdin": "/dev/zero"}}, {"words": ["ydebug", "/dev/null"]},
+                  {"words": ["ydebug", "./grammar.y"]}]
         some = [scenario(), *(scenario(**it) for it in others), scenario()]
         out = io.StringIO()
         with contextlib.redirect_stdout(out):

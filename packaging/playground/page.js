@@ -382,16 +382,14 @@ function busy(who, on) {
 
 busy.all = new Set();
 
-/* The bytes of the module, which stands in the page compressed. */
-async function moduleOf(letters) {
-  const bytes = Uint8Array.from(atob(letters), (it) => it.charCodeAt(0));
-  return through(new DecompressionStream("gzip"), bytes);
-}
+/* The bytes of the module, which stands in the page packed. */
+const moduleOf = (letters) =>
+  unpacked(Uint8Array.from(atob(letters), (it) => it.charCodeAt(0)), given.size);
 
 async function begin() {
   given = JSON.parse(at("given").textContent);
   [grammar, tokens, spec] = ["grammar", "tokens", "spec"].map((it) => new Editor(it, typed));
-  const module = await moduleOf(at("module").textContent);
+  const module = moduleOf(at("module").textContent);
   const deeds = { made: request, answered, busy: (is) => busy("parse", is) };
   asker = new Asker(module, at("worker").textContent, deeds);
   tellBy(module);

@@ -1,7 +1,7 @@
 """Puts the page together: its frame, its style, its scripts, the module, and what it is given."""
 import base64
-import gzip
 import json
+import lzma
 import re
 from pathlib import Path
 
@@ -10,8 +10,11 @@ from binary import Refused
 HERE = Path(__file__).resolve().parent
 TOP = HERE.parents[1]
 WORKER = "library", "worker"
-SCRIPTS = "readings", "editor", "address", "asking", "parse", "automaton", "told", "page"
+SCRIPTS = "readings", "editor", "address", "asking", "unpacking", "parse", "automaton", "told", "page"
 FIRST = "calculator"
+# The module is packed with what the page's script can unpack (unpacking.js).
+PACKING = {"id": lzma.FILTER_LZMA1, "preset": 9 | lzma.PRESET_EXTREME, "lc": 3, "lp": 0, "pb": 2,
+           "dict_size": 1 << 23}
 # A text of an example, which is read by the SPEC beside it.
 TEXTS = {"queries": "comma.sql", "statements": "step.c", "configuration": "site.conf"}
 # The rows of a table on faults, and of one on examples.
@@ -64,10 +67,16 @@ def lessons():
             yield {"name": part.partition("\n")[0], "shows": "", **texts}
 
 
-def given():
+def packed(module):
+    """A module as letters."""
+    made = lzma.compress(module, format=lzma.FORMAT_RAW, filters=[PACKING])
+    return base64.b64encode(made).decode()
+
+
+def given(module):
     """What the page is given, as JSON in which no element begins."""
     lists = {"examples": list(examples()), "texts": list(texts()), "lessons": list(lessons())}
-    values = {"faults": faults(), "first": FIRST, **lists}
+    values = {"faults": faults(), "first": FIRST, "size": len(module), **lists}
     return json.dumps(values, ensure_ascii=False, separators=(",", ":")).replace("<", "\\u003c")
 
 
@@ -75,9 +84,9 @@ def page_of(module):
     """The page with a module."""
     parts = {
         "STYLE": (HERE / "style.css").read_text(),
-        "MODULE": base64.b64encode(gzip.compress(module, mtime=0)).decode(),
+        "MODULE": packed(module),
         "WORKER": scripts(WORKER),
-        "GIVEN": given(),
+        "GIVEN": given(module),
         "SCRIPT": scripts(SCRIPTS),
     }
     for name, text in parts.items():

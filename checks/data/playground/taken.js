@@ -2,7 +2,6 @@
 /* What stands in the page of the playground: the library in its worker, and the functions of its
    script that take texts apart. */
 const { readFileSync } = require("fs");
-const { gunzipSync } = require("zlib");
 const { runInThisContext } = require("vm");
 
 const element = (page, id) => new RegExp(`<script[^>]* id="${id}">([^]*?)</script>`).exec(page)[1];
@@ -13,17 +12,21 @@ const NAMES = "STEP, EDIT, AHEAD, FAR, repliesOf, standing, condensed, rowsOf, r
 
 const calling = (...parts) => runInThisContext(`(() => {${parts.join("\n")}})()`);
 
+/* What stands in the script of a page by some names, without what begins it. */
+function inScript(page, names) {
+  const script = page.split("<script>")[1].split("</script>")[0];
+  return calling(script.replace(/^document\..*$/m, ""), `return { ${names} };`);
+}
+
 /* The library of a page, loaded as its worker does it. */
 async function libraryIn(path) {
-  const page = readFileSync(path, "utf8");
-  const bytes = gunzipSync(Buffer.from(element(page, "module"), "base64"));
+  const page = readFileSync(path, "utf8"), { unpacked } = inScript(page, "unpacked");
+  const packed = new Uint8Array(Buffer.from(element(page, "module"), "base64"));
+  const bytes = unpacked(packed, JSON.parse(element(page, "given")).size);
   return calling("const self = {};", element(page, "worker"), "return libraryOf;")(bytes);
 }
 
 /* The functions of a page that take texts apart. */
-function readingsIn(path) {
-  const script = readFileSync(path, "utf8").split("<script>")[1].split("</script>")[0];
-  return calling(script.replace(/^document\..*$/m, ""), `return { ${NAMES} };`);
-}
+const readingsIn = (path) => inScript(readFileSync(path, "utf8"), NAMES);
 
 module.exports = { libraryIn, readingsIn };
