@@ -179,7 +179,7 @@ def step_through(count, page, module, name):
     compare(count, f"{name}, back", page, module, [f"to {max(last - 2, 0)}"])
 
 
-def blocks_of(report):
+def report_blocks(report):
     """The blocks of a report on conflicts: the lines that begin with a place, and those after."""
     return re.split(r"\n(?=grammar\.y:\d)", report.replace("\n\n", "\n").rstrip("\n"))
 
@@ -200,7 +200,7 @@ def try_conflicts(count, page, module):
     count.hold("all states", shown == [f"State {it}" for it in states], shown)
     grammar = page.value("grammar")
     said = module.told(["conflicts", "grammar.y"], {"grammar.y": grammar})["out"]
-    head, *blocks = blocks_of(said)
+    head, *blocks = report_blocks(said)
     cards = page.all("#conflicts .card")
     count.hold("conflicts", cards == [card_of(it) for it in blocks] and len(cards) == 1, cards)
     causes = page.text("causes")
@@ -414,7 +414,7 @@ def look(count, driver, url, shots):
 
 def try_lessons(count, page, module):
     """The lessons of the course, each with its grammar and its tokens."""
-    names = page.browser.run("return [...document.querySelectorAll('#examples optgroup option')]"
+    names = page.browser.run("return [...document.querySelectorAll('#examples optgroup[label=Lessons] option')]"
                              ".map((it) => it.value)")
     lessons = dict(lessons_of(COURSE.read_text()))
     count.hold("all lessons", names == list(lessons), names)

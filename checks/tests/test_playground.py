@@ -339,7 +339,7 @@ class ThePage(Planted):
         """The blocks of a report, and the texts of their cards."""
         block = "grammar.y:7:11: warning: conflict 1: state 3 on B: shift\n  shift  B\n    A ."
         report = f"grammar.y: 1 shift/reduce\n  a cause\n\n{block}\n\ngrammar.y:9: warning: x\n"
-        head, *blocks = page.blocks_of(report)
+        head, *blocks = page.report_blocks(report)
         self.assertEqual(head, "grammar.y: 1 shift/reduce\n  a cause")
         self.assertEqual(blocks, [block, "grammar.y:9: warning: x"])
         card = "conflict 1: state 3 on B: shift 7:11shift  B\n  A ."

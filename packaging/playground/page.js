@@ -7,10 +7,10 @@ const REFUSALS = ["bad token", "no token", "halted", "limit", "no memory", "not 
   "had error", "unknown command"];
 let given, grammar, tokens, spec, asker, addressTimer;
 /* The lines by which the session comes to where it stands, the lines that wait to be sent, the
-   report on the last grammar without a fault, the tokens of the input, what was shown last, and
-   the state and the token at which the parse stands. */
+   report on the last grammar without a fault, the tokens of the input, what was shown last, the
+   state and the token at which the parse stands, and the module's bytes. */
 const page = { lines: [END], moves: [], report: null, rules: new Set(), verdict: null, words: "",
-  shown: null, here: null };
+  shown: null, here: null, module: null };
 
 /* The texts that stand in the fields. */
 const textsNow = () => ({ grammar: grammar.text, input: tokens.text, spec: spec.text });
@@ -389,16 +389,16 @@ const moduleOf = (letters) =>
 async function begin() {
   given = JSON.parse(at("given").textContent);
   [grammar, tokens, spec] = ["grammar", "tokens", "spec"].map((it) => new Editor(it, typed));
-  const module = moduleOf(at("module").textContent);
+  page.module = moduleOf(at("module").textContent);
   const deeds = { made: request, answered, busy: (is) => busy("parse", is) };
-  asker = new Asker(module, at("worker").textContent, deeds);
-  tellBy(module);
+  asker = new Asker(page.module, at("worker").textContent, deeds);
   const choices = (list) => list.map(({ name, shows }) =>
     make("option", { value: name, title: shows }, name));
   at("examples").append(make("option", { value: "" }, "choose one"), ...choices(given.examples),
     make("optgroup", { label: "Texts with a SPEC" }, ...choices(given.texts)),
     make("optgroup", { label: "Lessons" }, ...choices(given.lessons)));
   listen();
+  listenToAsk();
   window.onhashchange = openAddress;
   if (!await openAddress()) {
     at("examples").value = given.first;

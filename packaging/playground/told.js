@@ -38,9 +38,13 @@ function tellRequest() {
   return { files, runs: all.filter(({ name, key }) => told.keys.get(name) !== key) };
 }
 
-/* Asks for what isn't answered yet, where there is something. */
+/* Asks for what isn't answered yet, where there is something; whom, is made after the first answer
+   on the parse, which comes the sooner. */
 function askToTell() {
-  if (told.teller && tellRequest().runs.length) told.teller.ask();
+  if (!page.module || !tellRequest().runs.length) return;
+  const deeds = { made: tellRequest, answered: takeTold, busy: (is) => busy("told", is) };
+  told.teller ||= new Asker(page.module, at("worker").textContent, deeds);
+  told.teller.ask();
 }
 
 /* A link to a place of the grammar. */
@@ -147,7 +151,7 @@ function forget(part) {
 /* Ends what is asked; no run is asked again for the same. */
 function giveUp(runs = tellRequest().runs) {
   for (const { name, key } of runs) told.keys.set(name, key);
-  told.teller.breakOff();
+  if (told.teller) told.teller.breakOff();
 }
 
 /* A module that has ended is begun again, and not asked the same. */
@@ -163,9 +167,7 @@ function askWhy(state, token) {
   at("why-there").scrollIntoView({ block: "center" });
 }
 
-function tellBy(module) {
-  const deeds = { made: tellRequest, answered: takeTold, busy: (is) => busy("told", is) };
-  told.teller = new Asker(module, at("worker").textContent, deeds);
+function listenToAsk() {
   at("paged").ontoggle = askToTell;
   at("sketch").onclick = () => {
     told.sketch = true;
