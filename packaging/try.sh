@@ -12,7 +12,9 @@ set -eu
 top=$(cd "$(dirname "$0")/.." && pwd)
 debian=
 test "$1" != -r || { debian=$2; shift 2; }
-package=$(readlink -f "$(printf '%s\n' "$@" | grep /sulderko_)")
+# shellcheck disable=SC2046 # whole paths, since the folder changes
+set -- $(readlink -f "$@")
+package=$(printf '%s\n' "$@" | grep /sulderko_)
 room=$(mktemp -d)
 trap 'rm -rf "$room"' EXIT
 root=$room/root
