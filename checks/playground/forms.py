@@ -80,7 +80,7 @@ def left_of(scenario):
 
 def reason_against(scenario):
     """Why a scenario can't be run over files in memory; none where it can."""
-    if left_of(scenario) != scenario.inputs:
+    if left_of(scenario) != scenario.inputs or "--update" in scenario.words:
         return "it writes files"
     if scenario.links:
         return "it has links"
