@@ -17,6 +17,7 @@ from checks.shared.places import DATA, PAGES, ROOTS
 from checks.shared.running import ran
 
 ANSWERS = DATA / "playground/ydebug.js"
+PARTS = "words", "files", "input"
 # The status where words or files aren't laid out as they are to be.
 UNREADABLE = 125
 # What is asked of each grammar at random; the last is a session.
@@ -53,16 +54,15 @@ def files_as_bytes(files):
     return b"".join(b"%b\0%d\0%b" % (name, len(text), text) for name, text in named)
 
 
-class Ydebug(Node):
-    """`ydebug` in a module."""
+class Ydebug:
+    """`ydebug` in a module, by what answers a request of three texts in base64."""
 
-    def __init__(self, module):
-        super().__init__(ANSWERS, module)
+    def __init__(self, say):
+        self.say = say
 
     def call(self, words, files, given):
         """What comes of the bytes that the call is given."""
-        parts = {"words": words, "files": files, "input": given}
-        answer = self.say({name: b64encode(it).decode() for name, it in parts.items()})
+        answer = self.say([b64encode(it).decode() for it in (words, files, given)])
         if "broken" in answer:
             raise Fault(answer["broken"])
         return Run(answer["status"], *(b64decode(answer[it]) for it in ("out", "errors")))
@@ -170,8 +170,9 @@ def compare_drawn(module, program, count, tally, seed=1):
 
 
 def compare_forms(path, program, count, tally):
-    """`ydebug` in a module."""
-    with Ydebug(path) as module:
+    """`ydebug` in a module, by node."""
+    with Node(ANSWERS, path) as node:
+        module = Ydebug(lambda texts: node.say(dict(zip(PARTS, texts))))
         compare_refused(module, tally)
         compare_scenarios(module, stored(), tally)
         if program:

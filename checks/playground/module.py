@@ -3,6 +3,7 @@ reports."""
 import json
 import random
 import re
+import shutil
 import subprocess
 import tempfile
 from pathlib import Path
@@ -20,6 +21,15 @@ OUTCOMES = {1: "accepted at {steps}", 2: "rejected at token {token}", 3: "limit"
 ITEM = re.compile(r"[^' ][^ ]*:(?: |$)")
 CONFLICTS = re.compile(r" conflicts \d+ \d+$")
 SHOWN = re.compile(r"(\d+) (running|popping|accepted|failed)")
+
+
+def in_node(room, page):
+    """The program ystep over the module in a page, or at an address, as a file that can be run."""
+    file = Path(room) / "ystep"
+    words = shutil.which("node"), DATA / "playground/ystep.js", page
+    file.write_text("#!/bin/sh\nexec {} {} {} \"$@\"\n".format(*map(str, words)))
+    file.chmod(0o755)
+    return str(file)
 
 
 class Node:

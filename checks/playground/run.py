@@ -1,7 +1,7 @@
 """Runs the playground: the module in its page by node, and the page in a headless browser.
 
-    playground [--at PAGE] [--module FILE] [--drawn N] [--forms N] [--install] [--shots FOLDER]
-               [ystep=PATH] [ydebug=PATH]
+    playground [--at PAGE] [--module FILE] [--wide FILE] [--drawn N] [--forms N] [--install]
+               [--shots FOLDER] [ystep=PATH] [ydebug=PATH]
 
 Every scenario of `ystep` but those that ask for help comes back, byte for byte, from the module in
 PAGE, which is bin/playground.html unless given; so do the reports of the scenarios of `yacc`, and
@@ -10,12 +10,14 @@ the script of the page reads in these texts is compared with what stands there, 
 docs/COURSE.md says is to be seen. `ydebug` in the module that is in FILE, bin/playground.wasm
 unless given, is run on the scenarios of `ydebug` that write no files, and beside the program on
 grammars drawn at random (300, or N by --forms), byte for byte. The heap gives blocks at random,
-over memory of this machine. In the browser each example is stepped through by the keys, to the end
-and back; a fault is typed, a token is inserted and one dropped, an accepted parse unwound, an
-address opened, files are dropped, and an answer that takes long is broken off. With --install
-Debian's chromium and chromium-driver are installed by apt-get where they are missing. A line says
-what is skipped where node, `ystep`, `ydebug` or a browser isn't there. Pictures are kept in FOLDER,
-which is `screenshots` unless given. The last line is `N passed, M failed`.
+over memory of this machine. The same scenarios come back from the module whose addresses have 64
+bits, in bin/playground64.wasm unless given, in Chromium. In the browser each example is stepped
+through by the keys, to the end and back; a fault is typed, a token is inserted and one dropped, an
+accepted parse unwound, an address opened, files are dropped, and an answer that takes long is
+broken off. With --install Debian's chromium and chromium-driver are installed by apt-get where they
+are missing. A line says what is skipped where node, `ystep`, `ydebug` or a browser isn't there.
+Pictures are kept in FOLDER, which is `screenshots` unless given. The last line is
+`N passed, M failed`.
 """
 import gzip
 import re
@@ -29,8 +31,9 @@ from checks.pages import firefox
 from checks.pages import test as pages
 from checks.playground.course import compare_course
 from checks.playground.forms import compare_forms
-from checks.playground.module import compare_drawn, compare_reports
+from checks.playground.module import compare_drawn, compare_reports, in_node
 from checks.playground.page import compare_in_firefox, compare_page
+from checks.playground.wide import compare_wide
 from checks.scenarios.folders import Fault
 from checks.shared.arguments import asked
 from checks.shared.libraries import compiler
@@ -40,7 +43,7 @@ from checks.shared.running import ran
 from checks.shared.tally import Tally
 
 SOURCES, PAGE = TOP / "packaging/playground", TOP / "bin/playground.html"
-MODULE = TOP / "bin/playground.wasm"
+MODULE, WIDE = TOP / "bin/playground.wasm", TOP / "bin/playground64.wasm"
 MOST = 900_000
 ELSEWHERE = re.compile(r"https?:|\bimport\s*\(|\bfetch\(|XMLHttpRequest|<link[^>]*href=\"(?!data:)")
 
@@ -58,15 +61,6 @@ def look_at(tally, text):
     tally.hold("the size of the page", size <= MOST, size)
     found = ELSEWHERE.findall(text)
     tally.hold("nothing from elsewhere", not found, found)
-
-
-def in_node(room, page):
-    """The program ystep over the module in a page, as a file that can be run."""
-    file = Path(room) / "ystep"
-    words = shutil.which("node"), DATA / "playground/ystep.js", page
-    file.write_text("#!/bin/sh\nexec {} {} {} \"$@\"\n".format(*map(str, words)))
-    file.chmod(0o755)
-    return str(file)
 
 
 def compare_heap(room, source, tally):
@@ -112,6 +106,14 @@ def program_of(words, name):
     return path if Path(path).is_file() else None
 
 
+def browse_wide(module, tally):
+    """The module of 64 bits, in Chromium."""
+    if module.is_file() and shutil.which("node"):
+        compare_wide(module, tally)
+    else:
+        print(f"skipped: no {module}, or no node", flush=True)
+
+
 def browse(page, given, tally):
     """The page, in a browser, where there is one."""
     missing = pages.missing()
@@ -119,6 +121,7 @@ def browse(page, given, tally):
         print(f"skipped: no {' and no '.join(missing)}: the page isn't opened", flush=True)
         return
     compare_page(page, Path(given.shots), tally)
+    browse_wide(Path(given.wide), tally)
     if shutil.which(firefox.PROGRAM) or (given.install and pages.install([firefox.PROGRAM])):
         compare_in_firefox(page, Path(given.shots), tally)
     else:
@@ -129,8 +132,8 @@ def main(words):
     """Runs the playground."""
     programs = [it for it in words if is_program(it)]
     rest = [it for it in words if not is_program(it)]
-    given = asked(__doc__, rest, at=str(PAGE), module=str(MODULE), drawn=2000, forms=300,
-                  install=False, shots="screenshots")
+    given = asked(__doc__, rest, at=str(PAGE), module=str(MODULE), wide=str(WIDE), drawn=2000,
+                  forms=300, install=False, shots="screenshots")
     page, tally = Path(given.at).absolute(), Tally()
     if not page.is_file():
         sys.exit(f"no {page}: make playground")

@@ -1,13 +1,16 @@
 """Modules and pages of the playground that answer or show something else."""
+import base64
 import contextlib
 import copy
 import dataclasses
 import io
+import json
 import random
+import urllib.request
 from pathlib import Path
 from unittest import mock
 
-from checks.playground import course, forms, module, page, run
+from checks.playground import course, forms, module, page, run, wide
 from checks.scenarios.folders import Fault, Scenario
 from checks.tests.fakes import Planted, changed, ended
 
@@ -395,3 +398,41 @@ class ThePage(Planted):
             _, said = self.said(run.main, f"--at={file}")
         self.assertIn("\nskipped: there is no node\n", "\n" + said)
         self.assertIn("\nskipped: no chromium", "\n" + said)
+
+
+def coded(run_of):
+    """A run as the script in a browser answers it."""
+    out, errors = (base64.b64encode(it).decode() for it in (run_of.out, run_of.errors))
+    return {"status": run_of.status, "out": out, "errors": errors}
+
+
+class TheWideModule(Planted):
+    """The checks of the module with addresses of 64 bits."""
+
+    def test_address(self):
+        """What a tab answers comes back from its address."""
+        tab = mock.Mock(say=lambda request: {"bytes": request["texts"][0], "status": 2})
+        body = json.dumps({"call": "session", "texts": ["QQ=="]}).encode()
+        with wide.answered(tab) as address, urllib.request.urlopen(address, body) as reply:
+            self.assertEqual(json.loads(reply.read()), {"bytes": "QQ==", "status": 2})
+
+    def test_scenarios(self):
+        """A run that is otherwise than its scenario has it, or that trapped."""
+        for answer, wrong in (coded(RIGHT), 0), *((coded(it), 1) for it in WRONG), (
+                {"broken": "it trapped"}, 1):
+            tab = mock.Mock(say=mock.Mock(return_value=answer))
+            some = mock.Mock(stored=lambda: [scenario()], compare_refused=lambda *_: None,
+                             compare_scenarios=forms.compare_scenarios, Ydebug=forms.Ydebug)
+            with mock.patch.multiple(wide, forms=some, compare_ystep=lambda *_: None):
+                made = self.counted(wide.compare_tab, tab)
+            self.assertEqual(made, (1 - wrong, wrong), answer)
+            self.assertEqual(tab.say.call_args[0][0]["call"], "ydebug")
+
+    def test_both_programs(self):
+        """The scenarios of ystep are run by a program that asks the tab's address."""
+        asked = []
+        with mock.patch.multiple(wide, forms=mock.Mock(),
+                                 compare_ystep=lambda _, program, *__: asked.append(
+                                     Path(program).read_text())):
+            wide.compare_tab(mock.Mock(), mock.Mock())
+        self.assertIn("ystep.js http://127.0.0.1:", asked[0])

@@ -2,8 +2,9 @@
 
     python3 packaging/playground/build.py [--page]
 
-The module is made of the crate yembed (module.py), and left in bin/playground.wasm. With --page it
-is the one that stands there, and the page alone is made anew.
+The module is made of the crates yembed and yplayground (module.py), and left in
+bin/playground.wasm; beside it, for the checks, is the one of which it was made, whose addresses
+have 64 bits. With --page it is the one that stands there, and the page alone is made anew.
 """
 import gzip
 import sys
@@ -15,17 +16,22 @@ TOP = HERE.parents[1]
 sys.path += [str(TOP / "packaging")]
 
 from binary import Refused
+from narrow import narrowed
 from page import page_of
 
 PAGE, MODULE = TOP / "bin/playground.html", TOP / "bin/playground.wasm"
+WIDE = TOP / "bin/playground64.wasm"
 MOST = 900_000
 
 
 def make_module():
-    """Makes the module."""
+    """Makes the module, of 64 bits and of 32."""
     from module import made
     with tempfile.TemporaryDirectory() as room:
-        MODULE.write_bytes(made(Path(room)))
+        wide = made(Path(room))
+    narrow = narrowed(wide)
+    WIDE.write_bytes(wide)
+    MODULE.write_bytes(narrow)
 
 
 def main(words):

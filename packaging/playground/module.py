@@ -3,7 +3,7 @@
 The crates yembed and yplayground are proved and compiled as static libraries, and what the backend
 hands to clang is kept on its way. As LLVM's text each is given the machine of WebAssembly, and
 hides all names but those of its calls. The texts are compiled and linked by the kit's clang and lld
-beside a heap in C, and the module is narrowed.
+beside a heap in C.
 """
 import re
 import shutil
@@ -12,7 +12,6 @@ from pathlib import Path
 
 import library
 from binary import Refused
-from narrow import narrowed
 from shuffle import with_shuffle
 
 HERE = Path(__file__).resolve().parent
@@ -149,14 +148,14 @@ def linked(at, room, objects, names):
 
 
 def made(room):
-    """The module of the playground, made in a folder."""
+    """The module of the playground, whose addresses have 64 bits, made in a folder."""
     at = library.kit()
     plain = ["-ffreestanding", "-nostdinc", "-Wall", "-Wextra", "-Werror"]
     objects = [compiled(at, room, it, [*plain, HERE / f"{it}.c"]) for it in C_FILES]
     machine = machine_of(at, room)
     objects += [library_object(at, room, it, machine) for it in LIBRARIES]
     calls = [it for some in CALLS.values() for it in some]
-    return narrowed(linked(at, room, objects, [*calls, *OF_THE_HEAP]))
+    return linked(at, room, objects, [*calls, *OF_THE_HEAP])
 
 
 if not shutil.which("rt"):

@@ -18,8 +18,32 @@ function inScript(page, names) {
   return calling(script.replace(/^document\..*$/m, ""), `return { ${names} };`);
 }
 
-/* The library of a page, loaded as its worker does it. */
+/* The calls of a library that answers elsewhere, by a request to an address. */
+class Remote {
+  constructor(address) {
+    this.address = address;
+  }
+
+  async answer(call, texts) {
+    const body = JSON.stringify({ call, texts: texts.map((it) => it.toString("base64")) });
+    const { broken, bytes, ...answer } =
+      await (await fetch(this.address, { method: "POST", body })).json();
+    if (broken) throw new Error(broken);
+    return { ...answer, bytes: bytes === undefined ? bytes : Buffer.from(bytes, "base64") };
+  }
+
+  session(...texts) {
+    return this.answer("session", texts);
+  }
+
+  fault(...texts) {
+    return this.answer("fault", texts);
+  }
+}
+
+/* The library of a page, loaded as its worker does it, or one that answers at an address. */
 async function libraryIn(path) {
+  if (path.startsWith("http:")) return new Remote(path);
   const page = readFileSync(path, "utf8"), { unpacked } = inScript(page, "unpacked");
   const packed = new Uint8Array(Buffer.from(element(page, "module"), "base64"));
   const bytes = unpacked(packed, JSON.parse(element(page, "given")).size);

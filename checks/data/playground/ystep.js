@@ -1,5 +1,6 @@
 "use strict";
-/* The program ystep over the module in a page, but for its help: its scenarios run with it. */
+/* The program ystep over the module in a page, or over one that answers at an address, but for its
+   help: its scenarios run with it. */
 const { closeSync, openSync, readFileSync, readSync, writeSync } = require("fs");
 const { libraryIn } = require("./taken.js");
 
@@ -57,10 +58,10 @@ function later(get) {
 }
 
 /* Why there is no session. */
-function refusal(library, status, grammar, tokens) {
+async function refusal(library, status, grammar, tokens) {
   if (status === 3) return new Ended("no memory", 3);
   if (status === 4) return new Ended("B1", 3);
-  const { code, line, place } = library.fault(grammar, tokens);
+  const { code, line, place } = await library.fault(grammar, tokens);
   if (status === 1) return new Ended(`G${code}${line ? ` at line ${line}` : ""}`, 1);
   return new Ended(`K${code}${place ? ` at token ${place}` : ""}`, 1);
 }
@@ -72,8 +73,8 @@ async function run([page, ...words]) {
   const [tokens, unread] = later(() => fileIn(words[1]));
   const [lines, unheard] = unread ? [Buffer.alloc(0), null] : later(commands);
   const library = await libraryIn(page);
-  const { status, bytes } = library.session(grammar, tokens, lines);
-  if (status) throw refusal(library, status, grammar, tokens);
+  const { status, bytes } = await library.session(grammar, tokens, lines);
+  if (status) throw await refusal(library, status, grammar, tokens);
   if (unread || unheard) throw unread || unheard;
   const [, unwritten] = later(() => say(1, bytes));
   if (unwritten) throw new Ended("write fault", 3);
