@@ -1,6 +1,6 @@
 -- Which items of a state lead to a symbol: along the links of what bodies begin with, and back.
 use Rattle.std.proofs.Common.{ℕ, ◌≡◌, ◌<◌, ◌⊎◌, ◌∙◌, ◌↔◌, List, [], ◌∷◌, length, drop, refl, sym, ap}
-use Rattle.std.proofs.Common.{subst, inl, inr, Option, Some, None, MatchOption}
+use Rattle.std.proofs.Common.{subst, inl, inr, Result, Ok, Err, IfOk}
 use Rattle.std.specs.List.{Contains}
 use Rattle.ysymbols.specs.Grammar.{left_of, body_of}
 use Rattle.ylalr.specs.declared.items.Item.{Item}
@@ -57,8 +57,13 @@ module _ (m : Collection) (q x : ℕ) where
       reach_led (passed {p = p} {t = t} r k) e =
           let o = a.only p t k in
           let v = o.2 in
-          inr (o.0.rule, sym v.left, within o.0 o.1, subst (λ i. Leads m q x i)
-          (itemed o.0 0 v.first) (leads_by o.0 p v.rest o.1 v.next (reach_led r e)))
+          inr (
+            o.0.rule,
+            sym v.left,
+            within o.0 o.1,
+            subst (λ i. Leads m q x i)
+                (itemed o.0 0 v.first) (leads_by o.0 p v.rest o.1 v.next (reach_led r e)),
+          )
 
       pub among_leads : (n : BitRows) → IsSpread l old n → Holds old x 0 → (i : Item) →
           (Contains (state_of m q) i × IsAmong m n i) ↔ Leads m q x i
@@ -69,9 +74,18 @@ module _ (m : Collection) (q x : ℕ) where
               (reach_led ((s a.symbol 0).0 a.held) refl)
 
           up : Leads m q x i → Contains (state_of m q) i × IsAmong m n i
-          up f = let z = leads_next f in (leads_there f, record {
-            symbol = z.0;
-            rest = z.1;
-            next = z.2;
-            held = (s z.0 0).1 (leads_reach own f z.0 z.1 z.2);
-          })
+          up f = let z = leads_next f in (
+            leads_there f,
+            record {
+              symbol = z.0;
+              rest = z.1;
+              next = z.2;
+              held = (s z.0 0).1 (leads_reach own f z.0 z.1 z.2);
+            },
+          )
+
+-- what holds of a value, where there is one, by what else does
+pub ok_then : {T E : Type 0} (P Q : T → Type 0) → ((v : T) → P v → Q v) → (r : Result T E) →
+    IfOk r P → IfOk r Q
+ok_then P Q f (Ok v) h = f v h
+ok_then P Q f (Err e) h = tt

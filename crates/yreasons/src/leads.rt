@@ -120,6 +120,7 @@ pub fn leading(
     ensures order { IfOk result (λ v. IsAscending v.items) }
     ensures exact { IfOk result (λ v. (i : Item) → Contains v.items i ↔ Leads automaton.now q x i) }
 {
+    let _states = automaton.states();
     let _well_formed = automaton.grammar().symbols();
     let links = openings(alloc, automaton, q)?;
     let mut symbols = Rows::new(alloc, automaton.grammar().symbols(), 1)?;
