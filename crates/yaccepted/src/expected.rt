@@ -60,7 +60,8 @@ struct Compared {
     wanted: Option<Expected>,
     other: Option<Expected>,
     counted: usize,
-    /// Whether conflicts are counted as bison does, and a number that isn't the wanted one is told.
+    /// Whether conflicts are counted as bison does, and a number that isn't the wanted one is
+    /// reported.
     is_bison: bool,
 }
 
@@ -142,8 +143,8 @@ impl Expectation {
         }
     }
 
-    /// Writes where expected numbers aren't those that were counted, unless that is told, and says
-    /// whether they are.
+    /// Writes where expected numbers aren't those that were counted, unless that was reported,
+    /// and says whether they are.
     pub fn is_met<W: Write>(
         self,
         out: &mut W,

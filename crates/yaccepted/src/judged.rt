@@ -16,7 +16,7 @@ use yfaults::opening::Opened;
 use yfiles::reading::{LONGEST_INPUT, Limited};
 use yfiles::writing::put_file;
 
-/// The most conflicts that are told of those that are new, and of those that are gone.
+/// The most conflicts that are listed of those that are new, and of those that are gone.
 const MOST_TOLD: usize = 1_000;
 
 /// What is accepted.

@@ -19,7 +19,7 @@ pub struct File<'a> {
     pub bison: bool,
     /// Whether its comments are read. Directives of a file of bison always are.
     pub comments: bool,
-    /// Whether places are told with their columns.
+    /// Whether places have their columns.
     pub columns: bool,
 }
 
@@ -32,7 +32,7 @@ pub struct Counted {
     pub expected: Expectation,
     /// Its bytes.
     bytes: Vec<u8>,
-    /// Whether places are told with their columns.
+    /// Whether places have their columns.
     columns: bool,
 }
 

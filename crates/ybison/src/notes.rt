@@ -12,19 +12,19 @@ use yimport::symbols::Expected;
 /// The most bytes of the file that a line shows.
 const MOST_SHOWN: usize = 40;
 
-/// A grammar file: its path and its bytes, and how its places are told.
+/// A grammar file: its path and its bytes, and how its places are written.
 #[derive(Clone, Copy)]
 pub struct Source<'a> {
     /// The path.
     pub path: &'a str,
     /// The bytes.
     pub bytes: &'a [u8],
-    /// Whether places are told with their columns, as programs want them.
+    /// Whether places have their columns, as programs want them.
     pub columns: bool,
 }
 
 impl Source<'_> {
-    /// The column of a place, where columns are told.
+    /// The column of a place, where columns are written.
     pub fn column(self, at: usize) -> Option<usize> {
         let Source {
             path,
@@ -34,7 +34,7 @@ impl Source<'_> {
         Place { path, source, at }.column(columns)
     }
 
-    /// Where a part begins, as it is told.
+    /// Where a part begins, as it is written.
     pub fn spot(self, span: Span) -> Spot {
         Spot {
             line: span.line,

@@ -43,7 +43,7 @@ impl<'a> Asked<'a> {
         }
     }
 
-    /// How bad a conflict is. Where there is a list, what it hasn't is told by itself.
+    /// How bad a conflict is. Where there is a list, what it hasn't is reported by itself.
     fn conflict_severity(self, judged: &Judged) -> Severity {
         match judged.is_accepted() {
             Some(true) => Severity::Note,

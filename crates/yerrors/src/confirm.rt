@@ -75,11 +75,11 @@ fn detects(session: &mut Session) -> io::Result<bool> {
 /// a state with the last one ahead.
 fn detects_in(session: &mut Session, tokens: &[Sym], last: Sym, state: usize) -> io::Result<bool> {
     let one = [last];
-    let behind: &[Sym] = if last == END { &[] } else { &one };
-    if !put_all(session, behind)? || !put_all(session, tokens)? || !detects(session)? {
+    let after: &[Sym] = if last == END { &[] } else { &one };
+    if !put_all(session, after)? || !put_all(session, tokens)? || !detects(session)? {
         return Ok(false);
     }
-    let is_last = session.view().rest_len() == behind.len() && token_ahead(session) == last;
+    let is_last = session.view().rest_len() == after.len() && token_ahead(session) == last;
     Ok(is_last && session.state() == state)
 }
 

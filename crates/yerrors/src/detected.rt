@@ -1,4 +1,4 @@
-//! Which error of a state is told: one after the fewest tokens.
+//! Which error of a state is reported: one after the fewest tokens.
 
 use ylalr::END;
 use ysymbols::Sym;

@@ -2,10 +2,10 @@
 //! is detected there.
 //!
 //! `sets` has sets of tokens, `ways` what the tables say of the ways between states, and `detected`
-//! which error is told. `rows` says of a state, of a nonterminal in a state and of a rest of a rule
-//! there which tokens can be ahead after how many tokens, the fewest first; `search` and `spread`
-//! find all of that, and `lists` writes out the tokens of what was found. `confirm` puts a list
-//! into a session, and `errors` has what passes.
+//! which error is reported. `rows` says of a state, of a nonterminal in a state and of a rest of a
+//! rule there which tokens can be ahead after how many tokens, the fewest first; `search` and
+//! `spread` find all of that, and `lists` writes out the tokens of what was found. `confirm` puts a
+//! list into a session, and `errors` has what passes.
 #![tactic(auto)]
 
 pub mod confirm;

@@ -5,7 +5,7 @@ ghost use Rattle.std.specs.Iterator.{at_most};
 use std::alloc::{AllocError, Global};
 use ycells::{Candidate, candidate_at, next_rule, shift_at};
 use ylalr::{Automaton, Item};
-use yreasons::{Place, Reason, Reasons};
+use yreasons::{Place, Reason, Reasons, leading};
 use ysymbols::{Grammar, Precedence, Rule, Sym};
 use ytables::{Action, Conflict, Tables, is_ready, next_symbol};
 
@@ -99,6 +99,12 @@ pub fn is_complete(grammar: &Grammar, item: Item) -> bool {
     item.rule < grammar.rules() && is_ready(grammar, item)
 }
 
+/// Whether an item is of the kernel of its states: its dot isn't at the beginning, or it is that
+/// of rule 0.
+pub fn is_kernel(item: Item) -> bool {
+    item.dot > 0 || item.rule == 0
+}
+
 /// Where the complete items of a state stand among its items.
 pub fn ready_of(alloc: Global, automaton: &Automaton, state: usize) -> Made<Vec<usize>> {
     let items = items_of(automaton, state).iter().enumerate();
@@ -136,6 +142,20 @@ pub fn chain_at(
         reasons.chain(alloc, place.state, place.item, token)
     } else {
         Ok(None)
+    }
+}
+
+/// The items of a state that lead to a symbol by the closure; none for a number of no state.
+pub fn leading_at(
+    alloc: Global,
+    automaton: &Automaton,
+    state: usize,
+    symbol: Sym,
+) -> Made<Vec<Item>> {
+    if state < automaton.states() && symbol < automaton.grammar().symbols() {
+        leading(alloc, automaton, state, symbol)
+    } else {
+        Ok(Vec::new(alloc))
     }
 }
 

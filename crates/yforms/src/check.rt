@@ -128,7 +128,7 @@ impl<F: Files + AllocGlobal, R: Read, E: Write> Given<'_, F, R, E> {
     /// Writes what is asked for, and gives the exit status: 0 where all inputs are accepted, 1
     /// where the grammar, the SPEC, the file of messages or an input is refused or one isn't
     /// accepted, 3 where one can't be read, or memory runs out. For people, faults of the grammar,
-    /// the SPEC and the file of messages are told as errors.
+    /// the SPEC and the file of messages are reported as errors.
     pub fn run_check<W: Write>(&mut self, asked: Asked<'_>, out: &mut W) -> io::Result<u8> {
         if asked.inputs.format == Format::Text {
             return self.put_verdicts(asked, out);

@@ -15,7 +15,7 @@ pub struct Given<'a, F, R, E> {
     pub rt: &'a F,
     /// Standard input.
     pub input: R,
-    /// Where faults are told.
+    /// Where faults are written.
     pub errors: E,
     /// Where a session takes place.
     pub setting: Setting,

@@ -19,12 +19,12 @@ pub struct GrammarFile<'a> {
     pub path: &'a str,
     /// Whether it is one of bison or byacc.
     pub bison: bool,
-    /// Whether places in it and in inputs are told with their columns.
+    /// Whether places in it and in inputs have their columns.
     pub columns: bool,
 }
 
 impl<'a> GrammarFile<'a> {
-    /// That of a path, of yacc or of bison, whose places are told by their lines.
+    /// That of a path, of yacc or of bison, whose places have their lines alone.
     pub fn new(path: &'a str, bison: bool) -> GrammarFile<'a> {
         GrammarFile {
             path,

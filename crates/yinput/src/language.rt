@@ -26,7 +26,7 @@ pub struct LanguageFiles<'a> {
 }
 
 impl<'a> LanguageFiles<'a> {
-    /// The same files, whose places are told with their columns.
+    /// The same files, whose places have their columns.
     pub fn with_columns(self) -> LanguageFiles<'a> {
         let LanguageFiles { grammar, spec } = self;
         let grammar = GrammarFile {
@@ -161,7 +161,7 @@ impl Language {
         })
     }
 
-    /// The symbols of the grammar as people are told of them.
+    /// The symbols of the grammar as people write them.
     pub fn spoken(&self) -> Spoken<'_> {
         Spoken::new(grammar_of(&self.opened.tables), &self.spelled)
     }

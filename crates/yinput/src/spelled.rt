@@ -65,7 +65,7 @@ impl Spelled {
     }
 }
 
-/// The symbols of a grammar as people are told of them.
+/// The symbols of a grammar as people write them.
 #[derive(Clone, Copy)]
 pub struct Spoken<'a> {
     /// The grammar.

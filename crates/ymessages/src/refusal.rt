@@ -18,7 +18,7 @@ pub struct Source<'a> {
     pub path: &'a str,
     /// The bytes.
     pub bytes: &'a [u8],
-    /// Whether places are told with their columns. What is wrong with a whole line has none.
+    /// Whether places have their columns. What is wrong with a whole line has none.
     pub columns: bool,
 }
 

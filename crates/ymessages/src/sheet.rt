@@ -3,9 +3,8 @@
 use std::io::Write;
 use yerrors::confirm::Confirmed;
 use yerrors::errors::{Errors, MOST_STEPS, Reason};
-use yexplain::reads::{grammar_of, items_of};
+use yexplain::reads::{grammar_of, is_kernel, items_of};
 use yexplain::text::ItemText;
-use ylalr::Item;
 use ysymbols::{Grammar, Sym};
 use ytables::Tables;
 use yview::page::Page;
@@ -17,7 +16,7 @@ const WIDTH: usize = 78;
 /// The most items of a state that are shown.
 const MOST_ITEMS: usize = 12;
 
-/// The reasons for which a state has no input, in the order in which they are told.
+/// The reasons for which a state has no input, in the order in which they are written.
 const REASONS: [Reason; 6] = [
     Reason::Reduces,
     Reason::TakesAll,
@@ -74,16 +73,11 @@ pub fn put_no_text<W: Write>(page: &mut Page<W>, grammar: &Grammar, list: (&[Sym
     put_list(page, grammar, "## no text ", list);
 }
 
-/// Whether an item has begun.
-fn has_begun(item: Item) -> bool {
-    item.dot > 0 || item.rule == 0
-}
-
-/// Writes the items of a state that have begun.
+/// Writes the kernel items of a state.
 fn put_items<W: Write>(page: &mut Page<W>, tables: &Tables, state: usize) {
     let mut count: usize = 0;
     for item in items_of(tables.automaton(), state) {
-        if has_begun(*item) {
+        if is_kernel(*item) {
             count = count.saturating_add(1);
             if count <= MOST_ITEMS {
                 page.put("##   ");

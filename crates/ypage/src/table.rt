@@ -3,14 +3,13 @@
 use serde::Serialize;
 use std::alloc::Global;
 use yexplain::lines::Lines;
-use yexplain::reads::{Made, body_of, grammar_of, items_of, left_of};
+use yexplain::reads::{Made, body_of, grammar_of, is_kernel, items_of, left_of};
 use ylalr::{Automaton, END, token_count};
 use ysymbols::{Sym, let_go};
 use ytables::Tables;
 use yview::reading::name_of;
 
-/// A state: its number, and the rule and the dot of each item that has begun. The page adds the
-/// others.
+/// A state: its number, and the rule and the dot of each kernel item. The page adds the others.
 type State = (usize, Vec<(usize, usize)>);
 
 /// The grammar, and some states.
@@ -34,13 +33,13 @@ impl Drop for Table<'_> {
     }
 }
 
-/// States, with the items of each that have begun, and those of rule 0.
+/// States, with the kernel items of each.
 fn states_of(alloc: Global, automaton: &Automaton, numbers: &[usize]) -> Made<Vec<State>> {
     let mut states = Vec::new(alloc);
     for number in numbers {
         let items = items_of(automaton, *number)
             .iter()
-            .filter(|item| item.dot > 0 || item.rule == 0)
+            .filter(|item| is_kernel(**item))
             .map(|item| (item.rule, item.dot))
             .collect(alloc)?;
         states.push((*number, items))?;

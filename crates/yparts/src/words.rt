@@ -1,4 +1,4 @@
-//! The directives that a parser is told something by.
+//! The directives that say something to a parser.
 
 use crate::parts::{Deed, Taker, Target};
 use yforeign::directive::is_word;

@@ -4,3 +4,4 @@ pub mod BeforeSteps
 pub mod ClimbSteps
 pub mod SearchSteps
 pub mod ReachSteps
+pub mod LeadSteps

@@ -63,7 +63,7 @@ symbol_is m e f b d same is dot =
 dotted : (v : Place) (d : ℕ) → v.item.dot ≡ d → place_of v.state v.item.rule d ≡ v
 dotted v d e = ap (λ n. place_of v.state v.item.rule n) (sym e)
 
-itemed : (i : Item) (d : ℕ) → i.dot ≡ d → i ≡ record { rule = i.rule; dot = d }
+pub itemed : (i : Item) (d : ℕ) → i.dot ≡ d → i ≡ record { rule = i.rule; dot = d }
 itemed i d e = ap (λ n. record { rule = i.rule; dot = n }) e
 
 -- the place p gives to v, whose dot is past a symbol, by the goto

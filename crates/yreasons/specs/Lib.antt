@@ -1,3 +1,4 @@
 pub mod Front
+pub mod Leads
 pub mod Reasons
 pub mod Trail

@@ -88,7 +88,7 @@ pub fn answers_of(
     Ok(answers)
 }
 
-/// The most steps in which a sentence with two trees was sought in vain.
+/// The most steps in which a sentence with two trees was sought without success.
 fn steps_of(answers: &[Answer]) -> Option<usize> {
     answers.iter().filter_map(|answer| answer.steps).max()
 }

@@ -7,7 +7,7 @@ use ycounterexample::costs::occurrences;
 use ycounterexample::lists::Lists;
 use ycounterexample::queue::Queue;
 use ycounterexample::search::Finder;
-use yexplain::reads::{Made, body_of, has_item, items_of, left_of};
+use yexplain::reads::{Made, body_of, has_item, is_kernel, items_of, left_of};
 use ylalr::{Automaton, Item};
 use ysymbols::{Grammar, Sym};
 
@@ -124,13 +124,13 @@ impl Completer {
         Ok(None)
     }
 
-    /// Puts the rests of the items on top, but those that others there lead to.
+    /// Puts the rests of the kernel items on top.
     fn begin(&mut self, finder: &Finder, automaton: &Automaton, states: &[usize]) -> Made<()> {
         let entries = states.len().saturating_sub(1);
         let items = items_of(automaton, states.last().copied().unwrap_or(0));
         self.looked = self.looked.saturating_add(items.len());
         for item in items {
-            if item.dot > 0 || item.rule == 0 {
+            if is_kernel(*item) {
                 let grammar = automaton.grammar();
                 self.put(finder, grammar, entries, (*item, *item), (0, None))?;
             }

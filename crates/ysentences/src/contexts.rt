@@ -154,7 +154,7 @@ impl Contexts {
     }
 }
 
-/// Adds what stands behind the symbols after the dots.
+/// Adds what stands after the symbols after the dots.
 fn push_rests(form: &mut Vec<Sym>, grammar: &Grammar, way: &[Item]) -> Made<()> {
     for item in way {
         let body = body_of(grammar, item.rule);

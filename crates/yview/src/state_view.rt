@@ -4,8 +4,8 @@ use crate::page::{Page, Paint};
 use crate::reading::{has_conflict, name_of};
 use std::io::{Sink, Write, sink};
 use yexplain::reads::{
-    action_of, candidates_of, default_of, goto_of, grammar_of, is_complete, items_of, looks_at,
-    next_of,
+    action_of, candidates_of, default_of, goto_of, grammar_of, is_complete, is_kernel, items_of,
+    looks_at, next_of,
 };
 use yexplain::text::ItemText;
 use ylalr::{END, Item, token_count};
@@ -31,9 +31,9 @@ fn item_width(grammar: &Grammar, item: Item) -> usize {
 enum Rank {
     /// It is complete, or about the token ahead.
     First,
-    /// It has begun.
+    /// It is of the kernel.
     Second,
-    /// It hasn't.
+    /// It isn't.
     Third,
 }
 
@@ -41,7 +41,7 @@ enum Rank {
 fn rank_of(grammar: &Grammar, item: Item, ahead: Sym) -> Rank {
     if is_complete(grammar, item) || next_of(grammar, item) == Some(ahead) {
         Rank::First
-    } else if item.dot > 0 || item.rule == 0 {
+    } else if is_kernel(item) {
         Rank::Second
     } else {
         Rank::Third
