@@ -1,7 +1,7 @@
 """Builds libsulderko: bin/libsulderko.a and bin/libsulderko.so.1.
 
 The crate yembed is proved as it is built: over the libraries that `rt ci` left in crates/, where
-all of them are newer than what they are built from; else `rt lib` proves these too. What the
+all of them were put there after what they are built from; else `rt lib` proves these too. What the
 archive needs of the kit's C part goes into it, and no name but those of the calls is left global.
 """
 import os
@@ -57,11 +57,12 @@ def sources(name):
 
 
 def is_left(name):
-    """Whether `rt ci` left a library, which has no stamp, and that is newer than its sources."""
-    made = rlib(name) / "format"
-    if not made.is_file() or (rlib(name).parent / "stamp").is_file():
+    """Whether `rt ci` left a library, which has no stamp, after its sources were written. Its files
+    may be older, since the kit keeps what it proved; what counts is when they were put there."""
+    made = rlib(name)
+    if not (made / "format").is_file() or (made.parent / "stamp").is_file():
         return False
-    return all(it.stat().st_mtime < made.stat().st_mtime for it in sources(name))
+    return all(it.stat().st_mtime < made.stat().st_ctime for it in sources(name))
 
 
 def build(at, name, archive, toolchain=None, more=()):
