@@ -29,7 +29,7 @@ class Remote {
     const { broken, bytes, ...answer } =
       await (await fetch(this.address, { method: "POST", body })).json();
     if (broken) throw new Error(broken);
-    return { ...answer, bytes: bytes === undefined ? bytes : Buffer.from(bytes, "base64") };
+    return { ...answer, bytes: Buffer.from(bytes ?? "", "base64") };
   }
 
   session(...texts) {
