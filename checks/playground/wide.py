@@ -12,13 +12,20 @@ from checks.library.run import stored
 from checks.pages.browser import Browser, Driver
 from checks.playground import forms
 from checks.playground.module import in_node
+from checks.scenarios.folders import Fault
 from checks.shared.places import DATA, TOP
 
 LIBRARY = TOP / "packaging/playground/library.js"
 ANSWERS = DATA / "playground/in_browser.js"
+# What says whether the memory counts its pages by 64 bits; one of 32 refuses such a number.
 LOADED = """return (async (text) => {
-  window.answer = await answering(bytesOf(text));
-  return "memory" in WebAssembly;
+  const bytes = bytesOf(text), { instance } = await WebAssembly.instantiate(bytes, {});
+  window.answer = await answering(bytes);
+  try {
+    return instance.exports.memory.grow(0n) > 0n;
+  } catch {
+    return false;
+  }
 })(arguments[0]);
 """
 
@@ -29,7 +36,8 @@ class Tab:
     def __init__(self, browser, module):
         self.browser, self.turn = browser, threading.Lock()
         script = "\n".join(it.read_text() for it in (LIBRARY, ANSWERS))
-        browser.run(script + LOADED, b64encode(module).decode())
+        if not browser.run(script + LOADED, b64encode(module).decode()):
+            raise Fault("a module whose addresses don't have 64 bits")
 
     def say(self, request):
         """What is answered to a request; one is asked at a time."""

@@ -428,6 +428,12 @@ class TheWideModule(Planted):
             self.assertEqual(made, (1 - wrong, wrong), answer)
             self.assertEqual(tab.say.call_args[0][0]["call"], "ydebug")
 
+    def test_width(self):
+        """A module of 32 bits in the place of the one of 64."""
+        wide.Tab(mock.Mock(run=mock.Mock(return_value=True)), b"")
+        with self.assertRaises(Fault):
+            wide.Tab(mock.Mock(run=mock.Mock(return_value=False)), b"")
+
     def test_both_programs(self):
         """The scenarios of ystep are run by a program that asks the tab's address."""
         asked = []
