@@ -13,13 +13,11 @@ import subprocess
 import sys
 import time
 from dataclasses import dataclass
-from pathlib import Path
 
+from checks.gate.lanes import lanes, words_of
 from checks.shared.places import TOP
 from checks.shared.tally import Tally, sum_of
 
-# What one proof takes at most, in bytes, where it has one processor.
-PROOF = 5_000_000_000
 QUICK = ["rings"], ["fault-words"], ["trace"]
 # Each comparer draws for some seconds.
 SECONDS = "--seconds=25"
@@ -47,27 +45,6 @@ RUNNERS = (
 # What some of them need beside a C compiler; without it they are skipped.
 NEEDS = {"cells": "bison"}
 SKIPPED = "skipped: "
-
-
-def words_of(file):
-    """The words of a file of the system's, none where it isn't there."""
-    try:
-        return Path(file).read_text().split()
-    except OSError:
-        return []
-
-
-def lanes():
-    """How many proofs run beside each other: one a processor, as far as memory goes."""
-    found = len(os.sched_getaffinity(0))
-    quota = words_of("/sys/fs/cgroup/cpu.max")
-    if len(quota) == 2 and quota[0].isdigit():
-        found = min(found, int(quota[0]) // int(quota[1]))
-    memory = words_of("/proc/meminfo")
-    if "MemAvailable:" in memory:
-        free = 1024 * int(memory[memory.index("MemAvailable:") + 1])
-        found = min(found, free // PROOF)
-    return max(found, 1)
 
 
 def command(words):

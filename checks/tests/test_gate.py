@@ -8,7 +8,7 @@ import unittest
 from unittest import mock
 
 from checks import commands
-from checks.gate import edits, gate, rings, selftest, trace, words
+from checks.gate import gate, rings, selftest, trace, words
 from checks.shared import arguments
 from checks.shared.places import FAULTS, TOP
 from checks.shared.tally import Tally, sum_of
@@ -162,33 +162,6 @@ class Trace(Planted):
         rules = [("reducing by rule", "going by rule"), ("discarding state", "keeping state")]
         wrong = [*changed(trace_of, *rules), "", "nothing"]
         self.each_caught(lambda it: trace.differences(it, replies), trace_of, *wrong)
-
-
-class Edits(Planted):
-    """Edits that the prover doesn't refuse."""
-
-    def tried(self, crate, only, status):
-        """What is wrong where `rt must-fail` ends so."""
-        (self.room / "crates" / crate).mkdir(parents=True, exist_ok=True)
-        ran = subprocess.CompletedProcess([], status)
-        with mock.patch.object(edits.subprocess, "run", return_value=ran) as run:
-            lines = edits.tried(crate, only, self.room)
-        where = [it.kwargs["cwd"] for it in run.call_args_list]
-        self.assertLessEqual({*where}, {self.room})
-        return lines
-
-    def test_each_end(self):
-        """Another status, and an edit that isn't there, fail; all is done in the copy."""
-        crate = sorted(it.name for it in edits.EDITS.iterdir())[0]
-        name = next((edits.EDITS / crate).glob("*.edit")).stem
-        before = sorted((TOP / "crates" / crate).rglob("*.edit"))
-        self.assertFalse(self.tried(crate, "", 0))
-        self.assertTrue(self.tried(crate, "", 1))
-        self.assertTrue(self.tried(crate, "no-such-edit", 0))
-        self.assertFalse(self.tried(crate, name, 0))
-        laid = self.room / "crates" / crate / "must-fail"
-        self.assertEqual([it.stem for it in laid.iterdir()], [name])
-        self.assertEqual(before, sorted((TOP / "crates" / crate).rglob("*.edit")))
 
 
 class Selftest(Planted):
