@@ -15,7 +15,9 @@ def words_of(file):
 
 
 def lanes():
-    """One proof a processor, as far as memory goes."""
+    """One proof a processor, as far as memory goes, or as many as `RT_JOBS` says."""
+    if os.environ.get("RT_JOBS", "").isdigit():
+        return max(int(os.environ["RT_JOBS"]), 1)
     found = len(os.sched_getaffinity(0))
     quota = words_of("/sys/fs/cgroup/cpu.max")
     if len(quota) == 2 and quota[0].isdigit():

@@ -15,7 +15,8 @@ that is PROVED.
 It checks over the libraries that a proof left in `crates/NAME/out/rlib`, or over those in FOLDER.
 The crates must be proved as they stand. What is refused is kept on this machine by the sums of all
 that it rests on; --anew tries all. With --plan it proves nothing, and says what goes together. The
-last line is `N passed, M failed`: edits, or with --plan those that can be applied.
+last line is `N passed, M failed`: edits, or with --plan those that can be applied. `RT_JOBS` says
+how many checks run beside each other; else there is one a processor, as far as memory goes.
 """
 import shutil
 import signal
