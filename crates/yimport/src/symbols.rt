@@ -5,8 +5,8 @@ use crate::edits::Edits;
 use crate::note::Reason;
 use crate::refusal::{Refusal, Trouble};
 use crate::spelling::{Made, made_name, other_name, unbroken};
-use indexmap::IndexMap;
 use std::alloc::{AllocError, Global};
+use std::collections::HashMap;
 use yforeign::lexeme::{Lexeme, Span};
 use yforeign::survey::{Survey, inside, is_text};
 use ysymbols::let_go;
@@ -41,11 +41,11 @@ pub struct Work<'a> {
     /// The changes so far.
     pub edits: Edits<'a>,
     /// The name made for each string that stands for no token.
-    pub made: IndexMap<Vec<u8>, Made>,
+    pub made: HashMap<Vec<u8>, Made>,
     /// The last of these numbers.
     last_made: usize,
     /// The names that have no dashes any more, and where one stands that became each.
-    renamed: IndexMap<Vec<u8>, Lexeme>,
+    renamed: HashMap<Vec<u8>, Lexeme>,
     /// Where the `%precedence` stands for each level that comes from one.
     pub levels: Vec<Option<Span>>,
     /// The shift/reduce conflicts that the file expects.
@@ -82,9 +82,9 @@ impl<'a> Work<'a> {
             source,
             survey: Survey::new(alloc),
             edits: Edits::new(alloc, source),
-            made: IndexMap::new(alloc),
+            made: HashMap::new(alloc),
             last_made: 0,
-            renamed: IndexMap::new(alloc),
+            renamed: HashMap::new(alloc),
             levels: Vec::new(alloc),
             shift_reduce: None,
             reduce_reduce: None,
