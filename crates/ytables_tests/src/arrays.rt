@@ -1,16 +1,14 @@
 //! The arrays of grammars, by the numbers of states, symbols and rules.
 
+use crate::made::tables_of;
 use std::alloc::Global;
 use std::test::Fail;
 use testkit::worked::ONE;
 use ycode::{Code, Comb, Numbers, code_of};
-use ygrammar::read_grammar;
-use ylalr::build;
-use ytables::resolve;
 
 /// The arrays of a grammar text. An error is any fault of it, or memory ran out.
 fn arrays(alloc: Global, grammar: &[u8]) -> Result<Code, Fail> {
-    let tables = resolve(alloc, build(alloc, read_grammar(alloc, grammar)?)?)?;
+    let tables = tables_of(alloc, grammar)?;
     Ok(code_of(alloc, &tables)?)
 }
 
