@@ -232,10 +232,18 @@ fn differs(expected: Option<Expected>, found: usize) -> bool {
 }
 
 impl Foreign {
-    /// Whether the file expects other numbers of conflicts than it has.
-    pub fn surprises(&self) -> bool {
-        differs(self.imported.shift_reduce, self.counts.shift_reduce)
-            || differs(self.imported.reduce_reduce, self.counts.reduce_reduce)
+    /// Whether the file expects other numbers of conflicts than it has. Where it is one of bison,
+    /// `%expect-rr` is for another kind of parser, and `%expect` expects no reduce/reduce
+    /// conflicts.
+    pub fn surprises(&self, is_bison: bool) -> bool {
+        let shifts = self.imported.shift_reduce;
+        let counts = self.counts;
+        let others = if is_bison {
+            shifts.is_some() && counts.reduce_reduce != 0
+        } else {
+            differs(self.imported.reduce_reduce, counts.reduce_reduce)
+        };
+        others || differs(shifts, counts.shift_reduce)
     }
 }
 

@@ -17,6 +17,8 @@ pub enum Ending {
     Untold,
     /// The grammar file is refused, and that is said.
     Refused,
+    /// It is refused for a later bison that it requires, and that is said.
+    Later,
     /// The words are refused.
     Words,
     /// An argument is no text, or an output is an input or another output, and that is said.
@@ -51,6 +53,8 @@ pub struct File {
     pub bytes: Vec<u8>,
     /// The variables that words set as if the file did, with a zero after each.
     pub variables: Vec<u8>,
+    /// Whether words ask for the order and the names of bison.
+    pub is_bison: bool,
 }
 
 /// Says that a file can't be opened, read or written, or that memory ran out.

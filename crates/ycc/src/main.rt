@@ -111,6 +111,7 @@ fn obey(rt: &HostRuntime, given: Given<'_>, variables: Vec<u8>) -> Result<(), En
     let file = File {
         path: format!(in rt.alloc(); "{name}")?,
         bytes,
+        is_bison: given.bison || !variables.is_empty(),
         variables,
     };
     generate(rt, given, &file)
@@ -200,6 +201,7 @@ fn end(rt: &HostRuntime, ending: Ending) -> u8 {
     let (text, status): (&[u8], u8) = match ending {
         Ending::Helped => (b"", 0),
         Ending::Refused | Ending::Untold => (b"", 1),
+        Ending::Later => (b"", 63),
         Ending::Words => (USAGE, 2),
         Ending::Arguments => (b"", 2),
         Ending::Memory => (b"ycc: no memory\n", 3),

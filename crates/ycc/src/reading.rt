@@ -7,12 +7,13 @@ use ybison::notes::Source;
 use yfaults::opening::{Opened, Trouble as Unopened, put_trouble};
 use yfiles::steady::Steady;
 use yforeign::directive::is_imported;
-use ygrammar::{Grammar, LONGEST_FILE, Mapped, Mark, read_mapped};
+use ygrammar::{Grammar, GrammarFault, LONGEST_FILE, Mapped, Mark, read_mapped};
 use yimport::import::{Imported, import};
 use yimport::refusal::Trouble as Unimported;
+use yimport::symbols::Expected;
 use ylalr::build;
 use yparts::parts::Parts;
-use yparts::refusal::Trouble as Unmade;
+use yparts::refusal::{Refusal, Trouble as Unmade};
 use yparts::{foreign, native};
 use ytables::{Counts, Tables, resolve};
 
@@ -101,24 +102,41 @@ fn parts_in<'a, 'b>(
     grammar: &'b Grammar,
     imported: &'b Imported,
 ) -> Result<Parts<'a>, Ending> {
-    match foreign::parts_of(rt.alloc(), file.bytes.as_slice(), grammar, imported) {
+    match foreign::parts_of(rt.alloc(), &file.bytes, grammar, imported, file.is_bison) {
         Ok(parts) => Ok(parts),
         Err(Unmade::Memory) => Err(Ending::Memory),
-        Err(Unmade::Refused(refusal, at)) => Err(file.refuse(rt, at, refusal.text())),
+        Err(Unmade::Refused(refusal, at)) => match file.refuse(rt, at, refusal.text()) {
+            Ending::Refused if refusal == Refusal::Later => Err(Ending::Later),
+            ending => Err(ending),
+        },
     }
 }
 
 /// Says how many conflicts a foreign file has, unless it expects some; where it expects others,
-/// that was said, and it is refused.
-fn count<E: Write>(errors: &mut E, foreign: &Foreign) -> Result<(), Ending> {
-    if foreign.surprises() {
+/// it is refused, and that was said, but of reduce/reduce conflicts of bison.
+fn count<E: Write>(
+    errors: &mut E,
+    file: &File,
+    foreign: &Foreign,
+    is_bison: bool,
+) -> Result<(), Ending> {
+    let (imported, counts) = (&foreign.imported, foreign.counts);
+    let reduces = counts.reduce_reduce;
+    if let (Some(Expected { span, number }), true) = (
+        imported.shift_reduce,
+        is_bison && reduces > 0,
+    ) {
+        let (path, line) = (file.path.as_str(), span.line);
+        writeln!(
+            errors,
+            "{path}:{line}: %expect {number}: reduce/reduce conflicts, and none is expected: {reduces}"
+        )?;
+    }
+    if foreign.surprises(is_bison) {
         return Err(Ending::Refused);
     }
-    let imported = &foreign.imported;
-    if imported.shift_reduce.is_none() && imported.reduce_reduce.is_none() {
-        let counts = foreign.counts;
-        let (first, second) = (counts.shift_reduce as u64, counts.reduce_reduce as u64);
-        put_conflicts(errors, first, second)?;
+    if imported.shift_reduce.is_none() && (is_bison || imported.reduce_reduce.is_none()) {
+        put_conflicts(errors, counts.shift_reduce as u64, reduces as u64)?;
     }
     Ok(())
 }
@@ -141,9 +159,9 @@ fn read_imported<'a>(
         Err(3) => return Err(Ending::Outside),
         Err(_) => return Err(Ending::Refused),
     };
-    count(&mut errors, &foreign)?;
     let grammar = foreign.opened.tables.automaton().grammar();
     let parts = parts_in(rt, file, grammar, &foreign.imported)?;
+    count(&mut errors, file, &foreign, parts.options.is_bison)?;
     let Foreign { opened, .. } = foreign;
     let Opened { tables, .. } = opened;
     Ok(Reading {
@@ -153,16 +171,19 @@ fn read_imported<'a>(
     })
 }
 
-/// Whether the place where `yacc` stops reading begins with what an import takes.
-fn is_foreign(bytes: &[u8], trouble: &Unopened<'_>) -> bool {
-    match trouble {
-        Unopened::Grammar(refusal) => {
-            let at = refusal.placed.at;
-            let rest = bytes.get(at..).unwrap_or(&[]);
-            rest.starts_with(b"//") || is_imported(rest)
-        }
-        _ => false,
-    }
+/// Whether the place where `yacc` stops reading begins with what an import takes, or an import
+/// comes beyond it, up to a place.
+fn is_foreign(bytes: &[u8], trouble: &Unopened<'_>, end: usize) -> bool {
+    let Unopened::Grammar(refusal) = trouble else {
+        return false;
+    };
+    let at = refusal.placed.at;
+    let rest = bytes.get(at..).unwrap_or(&[]);
+    let is_unread = matches!(
+        refusal.placed.fault,
+        GrammarFault::BadLiteral { .. } | GrammarFault::Foreign { .. } | GrammarFault::Syntax { .. }
+    );
+    rest.starts_with(b"//") || is_imported(rest) || (is_unread && at < end)
 }
 
 /// A file that `yacc` refuses for this reason.
@@ -178,7 +199,7 @@ fn read_other<'a>(
         Ok(imported) if imported.notes.is_empty() => Err(refused(rt, file, trouble)),
         Ok(imported) => read_imported(rt, file, imported),
         Err(Unimported::Memory) => Err(Ending::Memory),
-        Err(Unimported::Refused(found)) if is_foreign(&file.bytes, trouble) => {
+        Err(Unimported::Refused(found)) if is_foreign(&file.bytes, trouble, found.span.from) => {
             Err(file.refuse(rt, found.span.from, found.refusal.text()))
         }
         Err(Unimported::Refused(_)) => Err(refused(rt, file, trouble)),

@@ -2,8 +2,8 @@
 
 use crate::queue::Queue;
 use crate::search::Finder;
-use indexmap::IndexSet;
 use std::alloc::Global;
+use std::collections::HashSet;
 use yexplain::reads::{Made, body_of};
 use ysymbols::{Grammar, Sym};
 
@@ -14,7 +14,9 @@ const MOST_SYMBOLS: usize = 1_000;
 #[derive(Drop)]
 pub struct Sentences {
     /// All forms that were met.
-    forms: IndexSet<Vec<Sym>>,
+    met: HashSet<Vec<Sym>>,
+    /// The same, by their numbers.
+    forms: Vec<Vec<Sym>>,
     queue: Queue,
     /// How many forms may still be taken in.
     left: usize,
@@ -26,7 +28,8 @@ impl Sentences {
     /// Nothing waits, and so many forms may be taken in.
     pub fn new(alloc: Global, most: usize) -> Sentences {
         Sentences {
-            forms: IndexSet::new(alloc),
+            met: HashSet::new(alloc),
+            forms: Vec::new(alloc),
             queue: Queue::new(alloc),
             left: most,
             symbols: 0,
@@ -51,9 +54,9 @@ impl Sentences {
             return Ok(());
         }
         self.left = self.left.saturating_sub(1);
-        let (number, is_new) = self.forms.insert_full(form)?;
-        if is_new {
-            self.queue.put(length, number)?;
+        if self.met.insert(form.clone()?)? {
+            self.queue.put(length, self.forms.len())?;
+            self.forms.push(form)?;
         }
         Ok(())
     }
@@ -69,7 +72,7 @@ impl Sentences {
         let Some((_, number)) = self.queue.take() else {
             return Ok(None);
         };
-        let form = match self.forms.get_index(number) {
+        let form = match self.forms.get(number) {
             Some(form) => form.clone()?,
             None => return Ok(None),
         };

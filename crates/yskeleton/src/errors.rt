@@ -33,7 +33,7 @@ yygo (yyway *yywayp, int yyrulep)
   YYGOTO (yystate, yystate, yyleft);
   if (yywayp->yyup == YYLOOKDEPTH)
     return -1;
-  yywayp->yymade[yywayp->yyup++] = (yystate_number) yystate;
+  yywayp->yymade[yywayp->yyup++] = YY_CAST (yystate_number, yystate);
   return yystate;
 }
 
@@ -48,7 +48,7 @@ yydoes (int yystate, int yytoken)
   yyn = yyrow[yystate] + yytoken;
   if (yycheck[yyn] == yytoken)
     return yyvalue[yyn];
-  return YYNSTATES + (YYMEMBER (yystate, yytoken) ? (int) yyusual[yystate] : YYNRULES);
+  return YYNSTATES + (YYMEMBER (yystate, yytoken) ? YY_CAST (int, yyusual[yystate]) : YYNRULES);
 }
 
 @if lists
@@ -75,7 +75,7 @@ yysees (const yystate_number *yyssp, int yytoken)
     {
       yyn = yydoes (yystate, yytoken) - YYNSTATES;
       if (yyn == YYNRULES)
-        yyn = yyrefuses (yystate, yytoken) ? 0 : (int) yydefault[yystate];
+        yyn = yyrefuses (yystate, yytoken) ? 0 : YY_CAST (int, yydefault[yystate]);
       if (yyn <= 0)
         break;
       yystate = yygo (&yywayd, yyn);
@@ -89,7 +89,7 @@ static int
 yycan_come (int yystate, int yytoken)
 {
   int yyn = yydoes (yystate, yytoken) - YYNSTATES;
-  return yyn != YYNRULES && (yyn <= 0 || yyn != (int) yydefault[yystate]);
+  return yyn != YYNRULES && (yyn <= 0 || yyn != YY_CAST (int, yydefault[yystate]));
 }
 @else
 /* Whether a token could come: after all reductions before it, it would be shifted. */
@@ -195,13 +195,13 @@ yyunquoted (char *yyto, const char *yyname)
     yywhole: ;
     }
   if (yyto)
-    return (size_t) (yystpcpy (yyto, yyname) - yyto);
+    return YY_CAST (size_t, yystpcpy (yyto, yyname) - yyto);
   return strlen (yyname);
 }
 #endif
 # define YYCOPY(to, token) yytnamerr (to, yytname[token])
 @else
-# define YYCOPY(to, token) yyspelled (to, yysymbol_name ((yysymbol_kind_t) (token)))
+# define YYCOPY(to, token) yyspelled (to, yysymbol_name (YY_CAST (yysymbol_kind_t, token)))
 static size_t
 yyspelled (char *yyto, const char *yyname)
 {
@@ -238,12 +238,12 @@ yysyntax_error (char *yyroom, size_t yysize, const yystate_number *yyssp, int yy
     }
   yylength = strlen (yyform) + 1;
   for (yyn = 0; yyn < yycount; ++yyn)
-    yylength += YYCOPY (0, yytokens[yyn]);
+    yylength += YYCOPY (YY_NULLPTR, yytokens[yyn]);
   if (yylength > yysize)
     {
-      yymsg = (char *) YYMALLOC (yylength);
+      yymsg = YY_CAST (char *, YYMALLOC (yylength));
       if (!yymsg)
-        return 0;
+        return YY_NULLPTR;
     }
   yyn = 0;
   for (yyto = yymsg; (*yyto = *yyform) != '\0';)
@@ -283,13 +283,13 @@ static int
 yypcontext_expected_tokens (const yypcontext_t *yycontext, yysymbol_kind_t yyarg[], int yymost)
 {
   int yytokens[YYNTOKENS];
-  int yywrong = (int) yycontext->yytoken;
-  int yycount = yyexpected (yycontext->yyssp, yywrong, yyarg ? yytokens : 0, yymost);
+  int yywrong = YY_CAST (int, yycontext->yytoken);
+  int yycount = yyexpected (yycontext->yyssp, yywrong, yyarg ? yytokens : YY_NULLPTR, yymost);
   int yyn;
   for (yyn = 0; yyarg && yyn < yycount; ++yyn)
-    yyarg[yyn] = (yysymbol_kind_t) yytokens[yyn];
+    yyarg[yyn] = YY_CAST (yysymbol_kind_t, yytokens[yyn]);
   if (yyarg && yycount == 0 && yymost > 0)
-    yyarg[0] = (yysymbol_kind_t) -2;
+    yyarg[0] = YY_CAST (yysymbol_kind_t, -2);
   return yycount;
 }
 
