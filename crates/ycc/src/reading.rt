@@ -117,7 +117,7 @@ fn count(rt: &HostRuntime, file: &File, foreign: &Foreign, is_bison: bool) -> Re
         let (path, line) = (file.path.as_str(), span.line);
         writeln!(
             rt.stderr(),
-            "{path}:{line}: %expect {number}: reduce/reduce conflicts, and none is expected: {reduces}"
+            "{path}:{line}: %expect {number}: unexpected reduce/reduce conflicts: {reduces}"
         )?;
     }
     if foreign.surprises(is_bison) {
