@@ -60,7 +60,7 @@ GROUPS = {
         "rings": "gate.rings",
         "fault-words": "gate.words",
         "trace": "gate.trace",
-        "edits": "gate.edits",
+        "mutants": "gate.mutants",
         "install": "gate.install",
     },
 }

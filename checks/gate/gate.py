@@ -1,10 +1,11 @@
-"""Runs the gate: quick checks, then `rt ci`, then what runs the programs that it built.
+"""Runs the gate: quick checks, then `rt ci`, the mutants, and what runs the programs that it built.
 
     gate
 
 The first quick check that doesn't end with status 0 ends the gate. The last line,
-`N passed, M failed`, is the sum of `rt ci` and the others; the lines before it say how long each of
-them took, what was skipped, and how much of the time other machines took away.
+`N passed, M failed`, is the sum of `rt ci` and the others; the lines before it say when the proof
+of each crate began and ended, how long each runner took, what was skipped, and how much of the time
+other machines took away.
 """
 import os
 import resource
@@ -13,17 +14,18 @@ import subprocess
 import sys
 import time
 from dataclasses import dataclass
-from pathlib import Path
 
+from checks.gate.checking import repository
+from checks.gate.clock import Clock, table
+from checks.gate.lanes import lanes, words_of
 from checks.shared.places import TOP
 from checks.shared.tally import Tally, sum_of
 
-# What one proof takes at most, in bytes, where it has one processor.
-PROOF = 5_000_000_000
 QUICK = ["rings"], ["fault-words"], ["trace"]
 # Each comparer draws for some seconds.
 SECONDS = "--seconds=25"
 RUNNERS = (
+    ["mutants"],
     ["selftest"],
     ["scenarios"],
     ["hostile"],
@@ -47,27 +49,7 @@ RUNNERS = (
 # What some of them need beside a C compiler; without it they are skipped.
 NEEDS = {"cells": "bison"}
 SKIPPED = "skipped: "
-
-
-def words_of(file):
-    """The words of a file of the system's, none where it isn't there."""
-    try:
-        return Path(file).read_text().split()
-    except OSError:
-        return []
-
-
-def lanes():
-    """How many proofs run beside each other: one a processor, as far as memory goes."""
-    found = len(os.sched_getaffinity(0))
-    quota = words_of("/sys/fs/cgroup/cpu.max")
-    if len(quota) == 2 and quota[0].isdigit():
-        found = min(found, int(quota[0]) // int(quota[1]))
-    memory = words_of("/proc/meminfo")
-    if "MemAvailable:" in memory:
-        free = 1024 * int(memory[memory.index("MemAvailable:") + 1])
-        found = min(found, free // PROOF)
-    return max(found, 1)
+PROOFS = "proofs"
 
 
 def command(words):
@@ -77,13 +59,15 @@ def command(words):
 
 @dataclass
 class Ran:
-    """What a runner said last, how it ended, what it skipped, and its seconds of a processor."""
+    """What a runner said last, how it ended, what it skipped, its seconds of a processor, and the
+    proofs that were seen below it."""
 
     name: str
     last: str
     status: int
     skipped: list
     spent: float
+    proofs: list
 
     def counted(self):
         """What passed and failed; it fails where it says nothing of the kind."""
@@ -108,10 +92,12 @@ def streamed(name, words):
     how = {"RT_JOBS": str(lanes()), **os.environ}
     pipes = {"stdout": subprocess.PIPE, "text": True, "errors": "replace"}
     with subprocess.Popen(words, env=how, cwd=TOP, **pipes) as running:
+        clock = Clock(running.pid)
         for last in running.stdout:
             print(last, end="", flush=True)
             skipped += [f"{name}: {last}"] if last.startswith(SKIPPED) else []
-    return Ran(name, last, running.returncode, skipped, spent() - before)
+    proofs = clock.stop()
+    return Ran(name, last, running.returncode, skipped, spent() - before, proofs)
 
 
 def result_of(name, words):
@@ -119,7 +105,7 @@ def result_of(name, words):
     need = NEEDS.get(name)
     if need and not shutil.which(need):
         line = f"{SKIPPED}there is no {need}\n"
-        return Ran(name, "0 passed, 0 failed\n", 0, [f"{name}: {line}"], 0.0)
+        return Ran(name, "0 passed, 0 failed\n", 0, [f"{name}: {line}"], 0.0, [])
     return streamed(name, words)
 
 
@@ -137,6 +123,13 @@ def tell_time(begun, stolen_before):
         f"gate: {wall / 60:.1f} minutes, {processor / 60:.1f} of processor time on"
         f" {len(os.sched_getaffinity(0))} processors, {lost / 60:.1f} stolen"
     )
+
+
+def tell_proofs(results):
+    """Says when the proof of each crate began and ended."""
+    proofs = [it for ran in results if ran.name == PROOFS for it in ran.proofs]
+    libraries = {name: it.ours for name, it in repository(TOP).crates.items()}
+    print("".join(table(proofs, libraries)), end="")
 
 
 def tell_runners(results):
@@ -161,6 +154,7 @@ def run(quick, runners):
     results = [result_of(*it) for it in runners]
     for it in results:
         tally.add(*it.counted())
+    tell_proofs(results)
     tell_runners(results)
     tell_time(begun, stolen_before)
     return tally.end()
@@ -169,4 +163,4 @@ def run(quick, runners):
 def main(_):
     """Runs the gate."""
     runners = [(words[0], command(words)) for words in RUNNERS]
-    return run(map(command, QUICK), [("proofs", ["rt", "ci"]), *runners])
+    return run(map(command, QUICK), [(PROOFS, ["rt", "ci"]), *runners])

@@ -7,8 +7,8 @@ parsers are made twice: by the peer that its file `case` names, and by ycc, in f
 names. Both programs run on each input, and standard output, standard error and status have to be
 the same, byte for byte. What ycc wrote is compiled by each compiler that is there, with all
 warnings and the sanitizers; one warning fails the case. With `--peer-twice` the peer stands in
-ycc's place, bison without default reductions: so it shows that a case depends on nothing that ycc
-does otherwise by design.
+ycc's place, bison without default reductions where `case` hasn't `--bison-lists`: so it shows that
+a case depends on nothing that ycc does otherwise by design.
 
 Each file of checks/data/features/refused has to be refused with status 1, a message that names the
 file and the line below its comment `refused below: WORDS`, and has these words; no file may be
@@ -50,6 +50,8 @@ COMPILERS = {"c": ["gcc", "clang"], "c++": ["g++", "clang++"]}
 STRICT = ["-Wall", "-Wextra", "-pedantic", "-O1", "-g"]
 CHECKED = ["-fsanitize=address,undefined", "-fno-sanitize-recover=all"]
 EASY = ["-w", "-O1"]
+# The word by which ycc lists tokens as bison does after its default reductions.
+LISTS = "--bison-lists"
 EAGER = {"bison": ["-Flr.default-reduction=consistent"], "byacc": []}
 KEYS = {"peer", "language", "make", "ycc", "compile", "flags", "status", "told", "environment"}
 KEYS |= {"input"}
@@ -260,9 +262,10 @@ def compare_results(theirs, ours):
 def makers_of(case, ycc):
     """The peer, and what is compared with it."""
     peer = Maker([case.peer], False)
-    if ycc is None:
-        return peer, Maker([case.peer, *EAGER[case.peer]], True, is_peer=True)
     own = case.words("ycc") if case.peer == "bison" else []
+    if ycc is None:
+        eager = [] if LISTS in own else EAGER[case.peer]
+        return peer, Maker([case.peer, *eager], True, is_peer=True)
     return peer, Maker([ycc, *own], True)
 
 

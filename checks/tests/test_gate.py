@@ -8,7 +8,7 @@ import unittest
 from unittest import mock
 
 from checks import commands
-from checks.gate import edits, gate, rings, selftest, trace, words
+from checks.gate import clock, gate, rings, selftest, trace, words
 from checks.shared import arguments
 from checks.shared.places import FAULTS, TOP
 from checks.shared.tally import Tally, sum_of
@@ -84,6 +84,15 @@ class Gate(Planted):
         _, said = self.said(lambda _: gate.run([], [python(f"print('skipped: it'); {WELL}")]))
         self.assertEqual(said.count("skipped: it"), 2)
 
+    def test_proofs(self):
+        """The proofs of `rt ci` are told at the end, and those of other runners aren't."""
+        seen = [clock.Seen("low", clock.PROOF, 3, 50, 40.0)]
+        with mock.patch.object(gate.Clock, "stop", return_value=seen):
+            for name, count in (("proofs", 1), ("mutants", 0)):
+                runner = name, python(WELL)[1]
+                _, said = self.said(lambda _, it=runner: gate.run([], [it]))
+                self.assertEqual(said.count("low                   3     50     40"), count)
+
     def test_needs(self):
         """A runner that can't be run here is skipped, and that is said."""
         with mock.patch.dict(gate.NEEDS, {"runner": "no-such-program"}):
@@ -95,6 +104,59 @@ class Gate(Planted):
         names = [it[0] for it in (*gate.QUICK, *gate.RUNNERS)]
         self.assertLessEqual({*names}, {*commands.modules()})
         self.assertEqual(len(names), len({*names}))
+
+
+class Clock(Planted):
+    """When proofs began and ended."""
+
+    # One that looks like a check: a shell of that name, which waits.
+    BEGINNER = """
+import subprocess, threading
+def check(*words):
+    subprocess.run(["kit/rattle", "-c", "sleep 0.3; :", *words], executable="/bin/sh")
+lanes = [threading.Thread(target=check, args=("--crate-name", it)) for it in ("low", "other")]
+for it in lanes: it.start()
+for it in lanes: it.join()
+check("--crate-name", "high")
+check("--crate-name", "high", "--test")
+"""
+
+    def test_seen(self):
+        """Checks that threads of a process begin are seen, each with its crate and its kind."""
+        running = subprocess.Popen([sys.executable, "-ISc", self.BEGINNER])
+        looking = clock.Clock(running.pid, 0.03)
+        running.wait()
+        seen = looking.stop()
+        kinds = sorted((it.crate, it.kind) for it in seen)
+        proofs = [(it, clock.PROOF) for it in ("high", "low", "other")]
+        self.assertEqual(kinds, sorted([*proofs, ("high", clock.TESTS)]))
+        for one in seen:
+            self.assertTrue(0.1 < one.ended - one.began < 0.5, one)
+
+    def test_kinds(self):
+        """Words and folders say what a check is for, and another program is none."""
+        words = ["kit/bin/rattle", "check", "--crate-name", "low"]
+        self.assertEqual(clock.crate_in(words), "low")
+        for other in ([], ["rattle"], ["rattle", "--crate-name"], ["rt", "--crate-name", "low"]):
+            self.assertIsNone(clock.crate_in(other))
+        self.assertEqual(clock.kind_of(words, "/a/crates/low"), clock.PROOF)
+        self.assertEqual(clock.kind_of([*words, "--test"], "/a/crates/low"), clock.TESTS)
+        self.assertEqual(clock.kind_of(words, "/a/rt-edit-3-x"), clock.MUTANT)
+        self.assertEqual(clock.kind_of([*words, "--crate-checked", "it"], "/a"), clock.BUILD)
+
+    def test_waits(self):
+        """A proof waited for the library that ended last, and so back to the first."""
+        times = {"low": (0, 50), "wide": (0, 80), "middle": (50, 70), "high": (85, 99)}
+        seen = [clock.Seen(it, clock.PROOF, *times[it], 60.0) for it in times]
+        libraries = {"middle": ["low"], "high": ["middle", "wide", "kept"]}
+        proofs = {it.crate: it for it in seen}
+        chain = [it.crate for it in clock.chain_of(proofs, libraries)]
+        self.assertEqual(chain, ["high", "wide"])
+        told = "".join(clock.table(seen, libraries))
+        self.assertIn("high                 85     99     60  wide, 5 ago\n", told)
+        self.assertIn("proofs: 4, 4.0 minutes of a processor\n", told)
+        self.assertIn("the seconds of each: high 14, wide 80\n", told)
+        self.assertEqual("".join(clock.table([], libraries)), "")
 
 
 class Rings(Planted):
@@ -162,33 +224,6 @@ class Trace(Planted):
         rules = [("reducing by rule", "going by rule"), ("discarding state", "keeping state")]
         wrong = [*changed(trace_of, *rules), "", "nothing"]
         self.each_caught(lambda it: trace.differences(it, replies), trace_of, *wrong)
-
-
-class Edits(Planted):
-    """Edits that the prover doesn't refuse."""
-
-    def tried(self, crate, only, status):
-        """What is wrong where `rt must-fail` ends so."""
-        (self.room / "crates" / crate).mkdir(parents=True, exist_ok=True)
-        ran = subprocess.CompletedProcess([], status)
-        with mock.patch.object(edits.subprocess, "run", return_value=ran) as run:
-            lines = edits.tried(crate, only, self.room)
-        where = [it.kwargs["cwd"] for it in run.call_args_list]
-        self.assertLessEqual({*where}, {self.room})
-        return lines
-
-    def test_each_end(self):
-        """Another status, and an edit that isn't there, fail; all is done in the copy."""
-        crate = sorted(it.name for it in edits.EDITS.iterdir())[0]
-        name = next((edits.EDITS / crate).glob("*.edit")).stem
-        before = sorted((TOP / "crates" / crate).rglob("*.edit"))
-        self.assertFalse(self.tried(crate, "", 0))
-        self.assertTrue(self.tried(crate, "", 1))
-        self.assertTrue(self.tried(crate, "no-such-edit", 0))
-        self.assertFalse(self.tried(crate, name, 0))
-        laid = self.room / "crates" / crate / "must-fail"
-        self.assertEqual([it.stem for it in laid.iterdir()], [name])
-        self.assertEqual(before, sorted((TOP / "crates" / crate).rglob("*.edit")))
 
 
 class Selftest(Planted):

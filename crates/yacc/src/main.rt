@@ -5,7 +5,7 @@ use std::env;
 use std::io::{self, ErrorKind, Write};
 use std::process::ExitCode;
 use ygenerate::generator::yacc_run;
-use ylink::Buffered;
+use ylink::{Buffer, Buffered};
 use ytables::Link;
 
 /// Passes on the words and the standard streams, and gives the exit status.
@@ -16,7 +16,7 @@ fn status(rt: &HostRuntime) -> io::Result<u8> {
     for word in &given {
         words.push(word.as_str())?;
     }
-    let mut writer = Link::new(Buffered::new(alloc, rt.stdout())?);
+    let mut writer = Link::new(Buffered::over(Buffer::new(alloc)?, rt.stdout()));
     let mut errors = Link::new(rt.stderr());
     Ok(yacc_run(rt, &words, &mut writer, &mut errors))
 }

@@ -9,6 +9,7 @@ use std::alloc::Global;
 use std::io::Write;
 use ycode::code_of;
 use yexplain::reads::Made;
+use yfiles::same::clash_of;
 use yfiles::writing::write_over;
 use yparts::options::{Header, Options};
 use yskeleton::{Mode, Numbering, Skeleton, Text, Trouble, Wishes, default_rules, style_of};
@@ -58,6 +59,24 @@ struct Texts<'a> {
 }
 
 impl Texts<'_> {
+    /// Says that a file would be written over another that is read or written, where one would.
+    fn guard(&self, rt: &HostRuntime, given: Given<'_>, names: &Names) -> Result<(), Ending> {
+        let outputs = [
+            Some(names.parser.as_str()),
+            self.header.as_ref().map(|_| names.header.as_str()),
+            self.report.as_ref().map(|_| names.report.as_str()),
+            self.table.as_ref().map(|_| names.table.as_str()),
+        ];
+        let inputs = [given.grammar, given.messages.unwrap_or(given.grammar)];
+        match clash_of(rt, &outputs, &inputs)? {
+            Some(clash) => {
+                let _ = writeln!(rt.stderr(), "ycc: {clash}");
+                Err(Ending::Arguments)
+            }
+            None => Ok(()),
+        }
+    }
+
     /// Writes the files.
     fn write(&self, rt: &HostRuntime, names: &Names) -> Result<(), Ending> {
         write(rt, &names.parser, self.parser.bytes())?;
@@ -160,7 +179,9 @@ fn make(
     skeleton: &Skeleton<'_>,
     names: &Names,
 ) -> Result<(), Ending> {
-    texts_of(rt, given, file, tables, skeleton)?.write(rt, names)
+    let texts = texts_of(rt, given, file, tables, skeleton)?;
+    texts.guard(rt, given, names)?;
+    texts.write(rt, names)
 }
 
 /// The rules by which bison's lists go, where these are wanted.

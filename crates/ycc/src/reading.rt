@@ -5,6 +5,7 @@ use std::io::{self, Write};
 use ybison::import::{Foreign, open_import};
 use ybison::notes::Source;
 use yfaults::opening::{Opened, Trouble as Unopened, put_trouble};
+use yfiles::steady::Steady;
 use yforeign::directive::is_imported;
 use ygrammar::{Grammar, GrammarFault, LONGEST_FILE, Mapped, Mark, read_mapped};
 use yimport::import::{Imported, import};
@@ -23,16 +24,17 @@ pub struct Reading<'a> {
     pub tables: Tables,
     /// What it says of its parser.
     pub parts: Parts<'a>,
+    /// Whether all was written that is said of it.
+    pub is_told: bool,
 }
 
 /// Says why a grammar file has no tables.
 fn refused(rt: &HostRuntime, file: &File, trouble: &Unopened<'_>) -> Ending {
-    if matches!(trouble, Unopened::Memory) {
-        return Ending::Memory;
-    }
     let (path, bytes) = (file.path.as_str(), file.bytes.as_slice());
-    match put_trouble(&mut rt.stderr(), rt.alloc(), (path, bytes), trouble, None) {
-        Ok(()) => Ending::Refused,
+    let mut errors = Steady::new(rt.stderr(), true);
+    match put_trouble(&mut errors, rt.alloc(), (path, bytes), trouble, None) {
+        Ok(()) if trouble.status() == 1 => Ending::Refused,
+        Ok(()) => Ending::Outside,
         Err(error) => Ending::from(error),
     }
 }
@@ -62,12 +64,12 @@ fn tables_of(rt: &HostRuntime, file: &File, grammar: Grammar) -> Result<Tables, 
 }
 
 /// Says how many conflicts there are, where there are some.
-fn put_conflicts(rt: &HostRuntime, first: u64, second: u64) -> io::Result<()> {
+fn put_conflicts<E: Write>(errors: &mut E, first: u64, second: u64) -> io::Result<()> {
     if first == 0 && second == 0 {
         return Ok(());
     }
     writeln!(
-        rt.stderr(),
+        errors,
         "conflicts: {first} shift/reduce, {second} reduce/reduce"
     )
 }
@@ -84,8 +86,13 @@ fn read_native<'a>(
         shift_reduce,
         reduce_reduce,
     } = tables.conflicts();
-    put_conflicts(rt, shift_reduce, reduce_reduce)?;
-    Ok(Reading { tables, parts })
+    let mut errors = Steady::new(rt.stderr(), true);
+    put_conflicts(&mut errors, shift_reduce, reduce_reduce)?;
+    Ok(Reading {
+        tables,
+        parts,
+        is_told: errors.finish().is_ok(),
+    })
 }
 
 /// What a foreign file says of its parser; where that is refused, it is said.
@@ -107,7 +114,12 @@ fn parts_in<'a, 'b>(
 
 /// Says how many conflicts a foreign file has, unless it expects some; where it expects others,
 /// it is refused, and that was said, but of reduce/reduce conflicts of bison.
-fn count(rt: &HostRuntime, file: &File, foreign: &Foreign, is_bison: bool) -> Result<(), Ending> {
+fn count<E: Write>(
+    errors: &mut E,
+    file: &File,
+    foreign: &Foreign,
+    is_bison: bool,
+) -> Result<(), Ending> {
     let (imported, counts) = (&foreign.imported, foreign.counts);
     let reduces = counts.reduce_reduce;
     if let (Some(Expected { span, number }), true) = (
@@ -116,7 +128,7 @@ fn count(rt: &HostRuntime, file: &File, foreign: &Foreign, is_bison: bool) -> Re
     ) {
         let (path, line) = (file.path.as_str(), span.line);
         writeln!(
-            rt.stderr(),
+            errors,
             "{path}:{line}: %expect {number}: unexpected reduce/reduce conflicts: {reduces}"
         )?;
     }
@@ -124,7 +136,7 @@ fn count(rt: &HostRuntime, file: &File, foreign: &Foreign, is_bison: bool) -> Re
         return Err(Ending::Refused);
     }
     if imported.shift_reduce.is_none() && (is_bison || imported.reduce_reduce.is_none()) {
-        put_conflicts(rt, counts.shift_reduce as u64, reduces as u64)?;
+        put_conflicts(errors, counts.shift_reduce as u64, reduces as u64)?;
     }
     Ok(())
 }
@@ -141,17 +153,22 @@ fn read_imported<'a>(
         bytes,
         columns: false,
     };
-    let foreign = match open_import(rt.alloc(), &mut rt.stderr(), source, imported)? {
+    let mut errors = Steady::new(rt.stderr(), true);
+    let foreign = match open_import(rt.alloc(), &mut errors, source, imported)? {
         Ok(foreign) => foreign,
         Err(3) => return Err(Ending::Outside),
         Err(_) => return Err(Ending::Refused),
     };
     let grammar = foreign.opened.tables.automaton().grammar();
     let parts = parts_in(rt, file, grammar, &foreign.imported)?;
-    count(rt, file, &foreign, parts.options.is_bison)?;
+    count(&mut errors, file, &foreign, parts.options.is_bison)?;
     let Foreign { opened, .. } = foreign;
     let Opened { tables, .. } = opened;
-    Ok(Reading { tables, parts })
+    Ok(Reading {
+        tables,
+        parts,
+        is_told: errors.finish().is_ok(),
+    })
 }
 
 /// Whether the place where `yacc` stops reading begins with what an import takes, or an import

@@ -1,16 +1,15 @@
 //! A session of one step whose writer refuses one of its calls, the flush among them.
 
+use crate::made::tables_of;
 use std::alloc::Global;
 use std::test::Fail;
 use testkit::devices::{Refusal, Sink};
 use testkit::worked::ONE;
 use ycli::fault::SessionFault;
 use ycli::run::run_session;
-use ygrammar::read_grammar;
-use ylalr::build;
 use yparse::{Session, read_tokens};
 use ysymbols::let_go;
-use ytables::{Link, Tables, resolve};
+use ytables::Link;
 
 const REPLY: &[u8] = b"1 shift 'x'\n";
 
@@ -28,11 +27,6 @@ impl Drop for Served {
     fn drop(self) {
         let_go!(self: Served { answer, writer });
     }
-}
-
-/// The tables of a grammar text. An error is any fault of it, or memory ran out.
-fn tables_of(alloc: Global, grammar: &[u8]) -> Result<Tables, Fail> {
-    Ok(resolve(alloc, build(alloc, read_grammar(alloc, grammar)?)?)?)
 }
 
 /// A session over one rule and one token, at its start.

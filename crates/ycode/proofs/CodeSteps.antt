@@ -1,11 +1,12 @@
 -- The arrays of a parser, of what they were made.
-use Rattle.std.proofs.Common.{ℕ, ◌≡◌, ◌+◌, ◌*◌, ◌<◌, ◌≤◌, ◌⊎◌, inl, inr, List, length, ap, ◌∙◌}
+use Rattle.std.proofs.Common.{ℕ, ◌≡◌, ◌+◌, ◌*◌, ◌^◌, ◌<◌, ◌≤◌, ◌⊎◌, inl, inr, List, length, ap, ◌∙◌}
 use Rattle.std.proofs.Common.{Bool, true}
 use Rattle.std.proofs.Common.{false, sym, subst, nat_lt, if◌then◌else◌}
 use Rattle.std.proofs.Common.{arith, slice_index}
 use Rattle.std.proofs.lemmas.List.{get_or_past}
 use Rattle.std.proofs.lemmas.List.Elements.{All-get_or}
-use Rattle.ysymbols.specs.Grammar.{left_of, body_of}
+use Rattle.ysymbols.specs.Grammar.{left_of, body_of, most_symbols}
+use Rattle.yrows.specs.Limits.{most_states}
 use Rattle.ysymbols.specs.WellFormed.{WellFormed}
 use Rattle.ylalr.specs.declared.items.Item.{Item}
 use Rattle.ylalr.specs.Collection.{HasStates, state_of}
@@ -20,7 +21,7 @@ use Rattle.ycode.specs.Cells.{AreSets}
 use Rattle.ycode.specs.Cells.{Fits}
 use Rattle.ycode.specs.Combs.{held, HasRows, AreAtMost}
 use Rattle.ycode.specs.Reading.{done_by, is_explicit, read_action}
-use Rattle.ycode.specs.Reads.{Reads, IsInside, AreSmall}
+use Rattle.ycode.specs.Reads.{Reads, IsInside, AreShort, AreSmall}
 use Rattle.ycode.specs.Symbols.{StandsBefore}
 use Rattle.ycode.specs.Targets.{AreTargets}
 use Rattle.ycode.specs.Translation.{TranslatesTo, translated}
@@ -150,13 +151,52 @@ module _ (v : TablesValue) (z : Sizes) (a : AreSizes v z) (usual sets : List ℕ
       go (inl l) = f x (omega (arith, e, l))
       go (inr l) = let d = get_or_past xs x 0 l in omega (arith, d)
 
+  product : (a b m n : ℕ) → a ≤ m → b ≤ n → a * b ≤ m * n
+  product a b m n h k = grind (arith, h, k)
+
+  short : length numbers ≤ 2 ^ 32 → AreShort v the_code
+  short few =
+      let states : states_of v ≤ most_states = let e = a.few_states in let f = a.states in
+      omega (arith, e, f) in
+      let symbols_few : symbols_of v ≤ most_symbols = let e = a.few_symbols in
+      let f = a.symbols in omega (arith, e, f) in
+      let tokens : tokens_of v < symbols_of v = let e = a.some_nonterminals in let f = a.symbols in
+      let g = a.tokens in omega (arith, e, f, g) in
+      let targets : length tu ≤ most_symbols = let e = t.count in
+      omega (arith, e, symbols_few) in
+      let cells1 = product (length rows) (tokens_of v + 1) most_states most_symbols
+      (let e = cells.counts.2 in omega (arith, e, states))
+      (omega (arith, tokens, symbols_few)) in
+      let cells2 = product (length trows) (length tu) most_states most_symbols
+      (let e = t.states in omega (arith, e, states)) targets in
+      let span : s.span ≤ 1024 = let e = b.span in omega (arith, e, tokens, symbols_few) in
+      let sets_few = product s.count s.span (most_states + 1) 1024
+      (let e = b.few in omega (arith, e, states)) span in
+      record {
+        states = states;
+        rules = let e = a.few_rules in let f = a.rules in omega (arith, e, f);
+        symbols = symbols_few;
+        checks = (
+          let e = h1.short in omega (arith, e, cells1),
+          let e = h2.short in omega (arith, e, cells2),
+        );
+        values = (
+          let e = h1.short in let f = h1.even in omega (arith, e, f, cells1),
+          let e = h2.short in let f = h2.even in omega (arith, e, f, cells2),
+        );
+        span = span;
+        bits = let e = i.sized in omega (arith, e, sets_few);
+        numbers = few;
+      }
+
   pub small : WellFormed v.built.grammar.bare → (length lengths ≡ rules_of v) →
       (length lefts ≡ rules_of v) → ((x : ℕ) → x < rules_of v → slice_index lengths x ≡
       length (body_of v.built.grammar.bare x)) → ((x : ℕ) → x < rules_of v →
       tokens_of v + slice_index lefts x ≡ left_of v.built.grammar.bare x) →
       AreAtMost (states_of v + rules_of v) c1.values → AreAtMost (states_of v) c2.values →
-      AreAtMost (tokens_of v) numbers → AreSmall v the_code
-  small w ll fl le fe v1 v2 ns = record {
+      AreAtMost (tokens_of v) numbers → length numbers ≤ 2 ^ 32 → AreSmall v the_code
+  small w ll fl le fe v1 v2 ns few = record {
+    short = short few;
     rows = (
       places_small v z a (tokens_of v + 1) rows c1 cells.counts.2
           (let e = a.tokens in let f = a.few_symbols in let g = a.some_nonterminals in

@@ -169,15 +169,16 @@ module _ (w : ℕ) (c c1 c2 v v1 v2 : List ℕ) (b b1 b2 : List Bool) (d : ℕ) 
       cell t h (inr e) = let s = wr.there t e.0 h e.1 in
           held_here c2 v2 (d + t) t s.0 ∙ (ap Some s.1 ∙ sym e.1)
 
-  pub written_keeps : length c1 ≤ length c + w →
+  pub written_keeps : length c1 ≤ length c + w → (length v ≡ length c → length v2 ≡ length c2) →
       Keeps (record { width = w; checks = c; values = v; begun = b })
       (record { width = w; checks = c2; values = v2; begun = b2 })
-  written_keeps more = record {
+  written_keeps more even = record {
     width = refl;
     begins = λ x h. begins_more x (g.begins x ∙ h);
     cells = λ x t h l. cell x t h l (at (x + t));
     grown = let a = g.longer in omega (arith, a, lc);
     longer = omega (arith, more, lc);
+    even = even;
   }
     where
       low : (x t : ℕ) → Begins b x → t < w → x + t < length c
@@ -202,12 +203,12 @@ module _ (w : ℕ) (c c1 c2 v v1 v2 : List ℕ) (b b1 b2 : List Bool) (d : ℕ) 
       go (inl u) = let e = g.numbers i in let l = a i in omega (arith, e, l, u.1)
       go (inr (s, n, e, k, rs, cs, vs)) = let l = r s n rs in omega (arith, l, vs)
 
-  pub written : length c1 ≤ length c + w →
+  pub written : length c1 ≤ length c + w → (length v ≡ length c → length v2 ≡ length c2) →
       IsPut (record { width = w; checks = c; values = v; begun = b })
       (record { width = w; checks = c2; values = v2; begun = b2 }) row d
-  written more = record {
+  written more even = record {
     placed = written_row;
-    keeps = written_keeps more;
+    keeps = written_keeps more even;
     values = written_values;
   }
 
@@ -229,6 +230,7 @@ keeps_all p = record {
   cells = λ d t h l. refl;
   grown = omega arith;
   longer = omega arith;
+  even = λ e. e;
 }
 
 -- a row with the numbers of these entries
@@ -255,11 +257,12 @@ found p row d h = record { placed = h; keeps = keeps_all p; values = λ n a r. a
 pub has_rows : (p : PackingValue) (places r k v : List ℕ) (rows : List (List Entry)) (w : ℕ) →
     p.width ≡ w → HaveEntries p places rows → r ≡ places → k ≡ p.checks → v ≡ p.values →
     AreAtMost p.width p.checks → length p.checks ≤ length p.values →
-    length p.checks ≤ 2 * (length rows * w) →
+    length p.checks ≤ 2 * (length rows * w) → length p.values ≡ length p.checks →
     HasRows rows w (record { rows = r; checks = k; values = v })
-has_rows p places r k v rows w e h er ek ev small beside short = record {
+has_rows p places r k v rows w e h er ek ev small beside short even = record {
   count = ap length er ∙ h.count;
   beside = let a = ap length ek in let b = ap length ev in omega (arith, a, b, beside);
+  even = ap length ev ∙ even ∙ sym (ap length ek);
   cells = λ q t l m. (let z : t < p.width = omega (arith, e, m) in
       ap (λ x. held_at x v (slice_index r q + t) t) ek
       ∙ (ap (λ x. held_at p.checks x (slice_index r q + t) t) ev

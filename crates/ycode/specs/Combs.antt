@@ -26,6 +26,7 @@ AreAtMost n numbers = (i : ℕ) → slice_index numbers i ≤ n
 pub record HasRows (rows : List (List Entry)) (width : ℕ) (c : Comb) : Type 0 where
   pub count : length c.rows ≡ length rows
   pub beside : length c.checks ≤ length c.values
+  pub even : length c.values ≡ length c.checks
   pub cells : (q t : ℕ) → q < length rows → t < width →
       held c q t ≡ entry_at (slice_index_or rows q []) t
   pub inside : (q t : ℕ) → q < length rows → t < width → place_of c q t < length c.checks

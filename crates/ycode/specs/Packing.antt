@@ -43,6 +43,7 @@ pub record Keeps (old new : PackingValue) : Type 0 where
       held_at new.checks new.values (d + t) t ≡ held_at old.checks old.values (d + t) t
   pub grown : length old.checks ≤ length new.checks
   pub longer : length new.checks ≤ length old.checks + old.width
+  pub even : length old.values ≡ length old.checks → length new.values ≡ length new.checks
 
 -- each number of the row is at most n
 abbrev pub RowAtMost : ℕ → List (Option ℕ) → Type 0

@@ -1,7 +1,8 @@
 -- What the arrays of a C parser say, and that nothing is read outside of them.
 use Rattle.std.specs.Prelude.{ℕ, ◌≡◌, ◌≢◌, ◌+◌, ◌*◌, ◌/◌, ◌<◌, ◌≤◌, ◌^◌, Some, None, length}
 use Rattle.std.specs.Prelude.{slice_get, slice_index}
-use Rattle.ysymbols.specs.Grammar.{left_of, body_of}
+use Rattle.ysymbols.specs.Grammar.{left_of, body_of, most_rules, most_symbols}
+use Rattle.yrows.specs.Limits.{most_states}
 use Rattle.ylalr.specs.Collection.{goto_in}
 use Rattle.ytables.specs.declared.cell.Action.TheVariants.{Error}
 use Rattle.ytables.specs.Tables.{TablesValue, action_at, default_at}
@@ -62,8 +63,20 @@ pub record IsInside (v : TablesValue) (c : Code) : Type 0 where
   pub left : (r : ℕ) → r < rules_of v → tokens_of v + slice_index c.lefts r < symbols_of v
   pub token : (n : ℕ) → read_token c n ≤ tokens_of v
 
--- All numbers are small: those of 32 bits with a sign hold each.
+-- The arrays are short: an index into one of them, or into a set of tokens, is a number of 32 bits.
+pub record AreShort (v : TablesValue) (c : Code) : Type 0 where
+  pub states : states_of v ≤ most_states
+  pub rules : rules_of v ≤ most_rules
+  pub symbols : symbols_of v ≤ most_symbols
+  pub checks : (length c.actions.checks < 2 ^ 28) × (length c.gotos.checks < 2 ^ 28)
+  pub values : (length c.actions.values < 2 ^ 28) × (length c.gotos.values < 2 ^ 28)
+  pub span : c.span ≤ 1024
+  pub bits : length c.bits < 2 ^ 28
+  pub numbers : length c.numbers ≤ 2 ^ 32
+
+-- All numbers are small, those of 32 bits with a sign hold each, and the arrays are short.
 pub record AreSmall (v : TablesValue) (c : Code) : Type 0 where
+  pub short : AreShort v c
   pub rows : AreAtMost (2 ^ 28) c.actions.rows × AreAtMost (2 ^ 28) c.gotos.rows
   pub checks : AreAtMost (tokens_of v + 1) c.actions.checks ×
       AreAtMost (length c.targets) c.gotos.checks

@@ -132,6 +132,8 @@ fn grow(
         values.new.items begun.old.items begun.new.items }
     ensures end { OnOk result (end ≤ vec_len checks.new) }
     ensures most { vec_len checks.new ≤ max (vec_len checks.old) end }
+    ensures even { OnOk result (vec_len values.old ≡ vec_len checks.old
+        → vec_len values.new ≡ vec_len checks.new) }
 {
     while checks.len() < end {
         values.push(0)?;

@@ -1,6 +1,6 @@
 //! Which token a number of the lexer is.
 
-ghost use Rattle.std.specs.Prelude.{ℕ, ◌≡◌, ◌≢◌, ◌<◌, ◌≤◌, ◌+◌, Some, length, IfOk, slice_get};
+ghost use Rattle.std.specs.Prelude.{ℕ, ◌≡◌, ◌≢◌, ◌<◌, ◌≤◌, ◌+◌, ◌^◌, Some, length, IfOk, slice_get};
 ghost use Rattle.std.specs.Prelude.{slice_index};
 ghost use Rattle.ycode.specs.Combs.{AreAtMost};
 ghost use Rattle.ycode.specs.Translation.{TranslatesTo};
@@ -12,7 +12,8 @@ use ysymbols::Grammar;
 /// One more than the greatest number of a token.
 fn bound_of(grammar: &Grammar, tokens: usize) -> usize
     requires { tokens ≡ grammar.now.bare.tokens }
-    ensures { (s n : ℕ) → s < tokens → slice_get grammar.now.numbers s ≡ Some n → n < result }
+    ensures above { (s n : ℕ) → s < tokens → slice_get grammar.now.numbers s ≡ Some n → n < result }
+    ensures few { result ≤ 2 ^ 32 }
 {
     let _well_formed = grammar.symbols();
     let mut bound = 0;
@@ -34,6 +35,7 @@ pub fn translation_of(
     requires { tokens ≡ grammar.now.bare.tokens }
     ensures translates { IfOk result (TranslatesTo tokens grammar.now.numbers tokens) }
     ensures most { IfOk result (λ v. AreAtMost tokens v) }
+    ensures few { IfOk result (λ v. length v ≤ 2 ^ 32) }
 {
     let _well_formed = grammar.symbols();
     let mut symbols = vec![in alloc; tokens; bound_of(grammar, tokens)]?;

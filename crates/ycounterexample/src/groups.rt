@@ -1,7 +1,7 @@
 //! The cells that count conflicts, those of one kind together.
 
-use indexmap::IndexMap;
 use std::alloc::Global;
+use std::collections::HashMap;
 use yexplain::lines::{Lines, Spot};
 use yexplain::reads::{Made, candidates_of, conflicts_of, items_of, next_of, rivals_in, shift_of};
 use yexplain::why::Question;
@@ -47,7 +47,9 @@ pub struct Group {
 #[derive(Drop)]
 pub struct Conflicts {
     /// The cells of each kind, in the order of the first states.
-    pub groups: IndexMap<Kind, Group>,
+    pub groups: Vec<(Kind, Group)>,
+    /// The place of each kind among them.
+    places: HashMap<Kind, usize>,
     /// How many cells have a conflict.
     pub cells: usize,
     /// How many of them were met once there were 20,000 kinds, and belong to no group.
@@ -135,7 +137,8 @@ impl Conflicts {
     /// The conflicts of tables.
     pub fn new(alloc: Global, tables: &Tables) -> Made<Conflicts> {
         let mut found = Conflicts {
-            groups: IndexMap::new(alloc),
+            groups: Vec::new(alloc),
+            places: HashMap::new(alloc),
             cells: 0,
             others: 0,
         };
@@ -160,9 +163,11 @@ impl Conflicts {
 
     /// Notes a conflict of a kind in a state.
     fn note(&mut self, kind: Kind, state: usize) -> Made<()> {
-        if let Some(group) = self.groups.get_mut(&kind) {
-            group.states = group.states.saturating_add(1);
-            group.last = state;
+        if let Some(place) = self.places.get(&kind).copied() {
+            if let Some((_, group)) = self.groups.get_mut(place) {
+                group.states = group.states.saturating_add(1);
+                group.last = state;
+            }
             return Ok(());
         }
         let group = Group {
@@ -170,7 +175,8 @@ impl Conflicts {
             states: 1,
             last: state,
         };
-        self.groups.insert(kind, group)?;
+        self.places.insert(kind, self.groups.len())?;
+        self.groups.push((kind, group))?;
         Ok(())
     }
 }

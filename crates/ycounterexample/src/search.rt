@@ -7,8 +7,8 @@ use crate::lists::Lists;
 use crate::moves::Moves;
 use crate::needs::{Need, Needs};
 use crate::queue::Queue;
-use indexmap::{IndexMap, IndexSet};
 use std::alloc::Global;
+use std::collections::{HashMap, HashSet};
 use yexplain::reads::{Made, body_of, left_of};
 use ylalr::{Automaton, Item};
 use ysymbols::{Grammar, Sym, let_go};
@@ -64,11 +64,11 @@ pub struct Search {
     nodes: Vec<Node>,
     queue: Queue,
     /// How often each spot was left; where several ways are wanted, with which lists of tokens.
-    met: IndexMap<Spot, usize>,
-    seen: IndexSet<(Spot, Digest)>,
+    met: HashMap<Spot, usize>,
+    seen: HashSet<(Spot, Digest)>,
     /// What has to hold for each item of a state with its dot at 0, once that was looked for: the
     /// needs from one place to another.
-    opened: IndexMap<(usize, Item), (usize, usize)>,
+    opened: HashMap<(usize, Item), (usize, usize)>,
     needs: Vec<Need>,
 }
 
@@ -128,9 +128,9 @@ impl Search {
             left,
             nodes: Vec::new(alloc),
             queue: Queue::new(alloc),
-            met: IndexMap::new(alloc),
-            seen: IndexSet::new(alloc),
-            opened: IndexMap::new(alloc),
+            met: HashMap::new(alloc),
+            seen: HashSet::new(alloc),
+            opened: HashMap::new(alloc),
             needs,
         })
     }
@@ -220,6 +220,11 @@ impl Finder {
         self.budget.spend(steps);
     }
 
+    /// Whether what a search allows isn't spent yet, of the steps of all kinds.
+    pub fn may_go_on(&self, search: &Search) -> bool {
+        self.budget.has_more_than(search.left.end)
+    }
+
     /// The ways between states.
     pub fn moves(&self) -> &Moves {
         &self.moves
@@ -270,7 +275,7 @@ impl Finder {
     /// The next way of a search, none of them shorter than those before.
     pub fn next(&mut self, automaton: &Automaton, search: &mut Search) -> Made<Found> {
         for _ in 0..MOST_SPOTS {
-            if search.left.spots == 0 || !self.budget.has_more_than(search.left.end) {
+            if search.left.spots == 0 || !self.may_go_on(search) {
                 break;
             }
             let Some((number, node)) = search.take()? else {

@@ -2,8 +2,8 @@
 
 use crate::queue::Queue;
 use crate::search::Finder;
-use indexmap::IndexSet;
 use std::alloc::Global;
+use std::collections::HashSet;
 use yexplain::reads::{Made, body_of};
 use ysymbols::{Grammar, Sym};
 
@@ -14,11 +14,13 @@ const MOST_SYMBOLS: usize = 1_000;
 #[derive(Drop)]
 pub struct Sentences {
     /// All forms that were met.
-    forms: IndexSet<Vec<Sym>>,
+    met: HashSet<Vec<Sym>>,
+    /// The same, by their numbers.
+    forms: Vec<Vec<Sym>>,
     queue: Queue,
     /// How many forms may still be taken in.
     left: usize,
-    /// How many symbols the forms had that were offered.
+    /// How many symbols the forms had that were offered or taken.
     symbols: usize,
 }
 
@@ -26,14 +28,15 @@ impl Sentences {
     /// Nothing waits, and so many forms may be taken in.
     pub fn new(alloc: Global, most: usize) -> Sentences {
         Sentences {
-            forms: IndexSet::new(alloc),
+            met: HashSet::new(alloc),
+            forms: Vec::new(alloc),
             queue: Queue::new(alloc),
             left: most,
             symbols: 0,
         }
     }
 
-    /// How many symbols the forms had that were offered.
+    /// How many symbols the forms had that were offered or taken.
     pub fn symbols(&self) -> usize {
         self.symbols
     }
@@ -51,9 +54,9 @@ impl Sentences {
             return Ok(());
         }
         self.left = self.left.saturating_sub(1);
-        let (number, is_new) = self.forms.insert_full(form)?;
-        if is_new {
-            self.queue.put(length, number)?;
+        if self.met.insert(form.clone()?)? {
+            self.queue.put(length, self.forms.len())?;
+            self.forms.push(form)?;
         }
         Ok(())
     }
@@ -69,10 +72,11 @@ impl Sentences {
         let Some((_, number)) = self.queue.take() else {
             return Ok(None);
         };
-        let form = match self.forms.get_index(number) {
+        let form = match self.forms.get(number) {
             Some(form) => form.clone()?,
             None => return Ok(None),
         };
+        self.symbols = self.symbols.saturating_add(form.len());
         // the first nonterminal
         match form.iter().position(|symbol| !grammar.is_token(*symbol)) {
             Some(place) => {

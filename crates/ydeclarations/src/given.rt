@@ -12,7 +12,6 @@ ghost use Rattle.ydeclarations.specs.Owned.{AllSmall, HasFirst, IsFirstWrong, Is
 ghost use Rattle.ydeclarations.specs.Owned.{Precedes, TellsNumbers, with_number};
 ghost use Rattle.ysyntax.specs.Tree.{Identifier as IdentifierOf, Tree as TreeOf};
 ghost use Rattle.ysyntax.specs.TreeViews.{identifier_view, occurrence_view};
-ghost use Rattle.ysymbols.specs.NameTexts.{texts};
 ghost use Rattle.ydeclarations.specs.Outline.{Outlines, listed_view};
 ghost use Rattle.ydeclarations.specs.OutlineSites.{IsPlaced, OutlineSites};
 ghost use Rattle.ydeclarations.specs.Told.{AreAmong, IsSecond, TellsPrecedences};
@@ -33,8 +32,8 @@ fn told_precedences(
     tokens: &SymbolTable,
     listed: &[Listed],
 ) -> Result<Vec<Option<Precedence>>, Refused>
-    ensures told { TellsPrecedences (texts tokens.now) (map listed_view listed.now) result }
-    ensures place { AreAmong (texts tokens.now) (map listed_view listed.now) →
+    ensures told { TellsPrecedences tokens.now (map listed_view listed.now) result }
+    ensures place { AreAmong tokens.now (map listed_view listed.now) →
         IfErr result (IsSecond (map listed_view listed.now) (map (λ l. l.who.at) listed.now)) }
 {
     let mut given = vec![in alloc; None; tokens.len()]?;
@@ -129,11 +128,11 @@ pub fn given_numbers(
     listed: &[Listed],
 ) -> Result<GivenNumbers, AllocError>
     ensures small { IfOk result (λ g. AllSmall g.first.items) }
-    ensures told { IfOk result (λ g. TellsNumbers (texts tokens.now) []
+    ensures told { IfOk result (λ g. TellsNumbers tokens.now []
         (map listed_view listed.now) g.first.items g.fault) }
-    ensures first { IfOk result (λ g. HasFirst (texts tokens.now) g.first.items
+    ensures first { IfOk result (λ g. HasFirst tokens.now g.first.items
         (map listed_view listed.now)) }
-    ensures fault { AreAmong (texts tokens.now) (map listed_view listed.now) →
+    ensures fault { AreAmong tokens.now (map listed_view listed.now) →
         IfOk result (λ g. IsFirstWrong (map listed_view listed.now) (length listed.now) g.fault) }
 {
     let mut given = GivenNumbers {
@@ -153,8 +152,8 @@ pub fn given_numbers(
 fn fill_literal(table: &mut Vec<Option<u32>>, tokens: &SymbolTable, who: Identifier)
     ensures small { AllSmall table.old.items → AllSmall table.new.items }
     ensures told { (rest : List IdentifierOf) (own : Name → Option ℕ) →
-        OwnSoFar (texts tokens.now) table.old.items (literal_value (identifier_view who.entry
-        ∷ rest)) own → OwnSoFar (texts tokens.now) table.new.items (literal_value rest) own }
+        OwnSoFar tokens.now table.old.items (literal_value (identifier_view who.entry
+        ∷ rest)) own → OwnSoFar tokens.now table.new.items (literal_value rest) own }
 {
     if let Identifier::Quoted(value) = who {
         fill(table, number_of(tokens, who), u32::from(value));
@@ -165,9 +164,9 @@ fn fill_literal(table: &mut Vec<Option<u32>>, tokens: &SymbolTable, who: Identif
 fn fill_literals(table: &mut Vec<Option<u32>>, tokens: &SymbolTable, occurrences: &[Occurrence])
     ensures small { AllSmall table.old.items → AllSmall table.new.items }
     ensures told { (more : List IdentifierOf) (own : Name → Option ℕ) →
-        OwnSoFar (texts tokens.now) table.old.items
+        OwnSoFar tokens.now table.old.items
         (literal_value (map occurrence_view occurrences.now
-        ++ more)) own → OwnSoFar (texts tokens.now) table.new.items (literal_value more) own }
+        ++ more)) own → OwnSoFar tokens.now table.new.items (literal_value more) own }
 {
     for occurrence in occurrences {
         fill_literal(table, tokens, occurrence.who);
@@ -184,9 +183,9 @@ pub fn own_numbers(
 ) -> Vec<Option<u32>>
     ensures small { AllSmall given.items → AllSmall result.items }
     ensures told { (own : Name → Option ℕ) →
-        OwnSoFar (texts tokens.now) given.items (usual_of (map occurrence_view declared.now
+        OwnSoFar tokens.now given.items (usual_of (map occurrence_view declared.now
         ++ map occurrence_view used.now)) own →
-        OwnSoFar (texts tokens.now) result.items (λ _. None) own }
+        OwnSoFar tokens.now result.items (λ _. None) own }
 {
     let mut own = given;
     fill(&mut own, number_in(tokens, b"$end"), 0);
@@ -203,10 +202,10 @@ pub fn precedences(
     tokens: &SymbolTable,
     outline: &Outline,
 ) -> Result<Vec<Option<Precedence>>, Refused>
-    ensures told { (t : TreeOf) → Outlines outline.now t → texts tokens.now ≡ tokens_of_tree t →
+    ensures told { (t : TreeOf) → Outlines outline.now t → tokens.now ≡ tokens_of_tree t →
         Precedes t result }
     ensures place { (t : TreeOf) (ds rs : List Site) → Outlines outline.now t →
-        OutlineSites outline.now ds rs → texts tokens.now ≡ tokens_of_tree t →
+        OutlineSites outline.now ds rs → tokens.now ≡ tokens_of_tree t →
         IfErr result (IsPlaced t (ds ++ rs)) }
 {
     told_precedences(alloc, tokens, &outline.listed)

@@ -2,7 +2,6 @@
 
 ghost use Rattle.std.specs.Prelude.{◌≡◌, OnOk};
 ghost use Rattle.ysymbols.specs.Names.{is_among, number_in, with_name};
-ghost use Rattle.ysymbols.specs.NameTexts.{texts};
 ghost use Rattle.ydeclarations.specs.Printed.{printed_name};
 ghost use Rattle.ysyntax.specs.TreeViews.{identifier_view};
 
@@ -12,7 +11,7 @@ use ysyntax::tree::Identifier;
 
 /// The number of a name or literal, or how many names there are where it is not among them.
 pub fn number_of(names: &SymbolTable, who: Identifier) -> usize
-    ensures { result ≡ number_in (texts names.now) (printed_name (identifier_view who.entry)) }
+    ensures { result ≡ number_in names.now (printed_name (identifier_view who.entry)) }
 {
     match who {
         Identifier::Named(name) => number_in(names, name),
@@ -22,7 +21,7 @@ pub fn number_of(names: &SymbolTable, who: Identifier) -> usize
 
 /// Whether a name or literal is among these names.
 pub fn is_named(names: &SymbolTable, who: Identifier) -> bool
-    ensures { result ≡ is_among (texts names.now) (printed_name (identifier_view who.entry)) }
+    ensures { result ≡ is_among names.now (printed_name (identifier_view who.entry)) }
 {
     match who {
         Identifier::Named(name) => is_among(names, name),
@@ -37,8 +36,8 @@ pub fn intern_identifier(
     names: &mut SymbolTable,
     who: Identifier,
 ) -> Result<(), AllocError>
-    ensures { OnOk result (texts names.new
-        ≡ with_name (texts names.old) (printed_name (identifier_view who.entry))) }
+    ensures { OnOk result (names.new
+        ≡ with_name names.old (printed_name (identifier_view who.entry))) }
 {
     match who {
         Identifier::Named(name) => intern(alloc, names, name),

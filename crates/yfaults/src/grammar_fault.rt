@@ -61,8 +61,8 @@ fn put_others<W: Write>(out: &mut W, names: &SymbolTable) -> io::Result<()> {
         return Ok(());
     }
     write!(out, "  The same holds of:")?;
-    for name in names.iter().skip(1).take(MOST_NAMED) {
-        let name = Bytes(name);
+    for number in 1..names.len().min(MOST_NAMED + 1) {
+        let name = Bytes(names.get(number).unwrap_or(b""));
         write!(out, " {name}")?;
     }
     let is_cut = names.len() > MOST_NAMED + 1;

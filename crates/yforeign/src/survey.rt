@@ -4,8 +4,8 @@ use crate::directive::{Directive, is_symbol};
 use crate::groups::{Group, Head};
 use crate::lexeme::{Kind, Lexeme};
 use crate::numbers::number_of;
-use indexmap::IndexMap;
 use std::alloc::{AllocError, Global};
+use std::collections::HashMap;
 use ysymbols::let_go;
 use ysymbols::names::{SymbolTable, intern, is_among};
 
@@ -31,7 +31,7 @@ pub struct Survey {
     /// The names of the end.
     ends: SymbolTable,
     /// The strings that stand for tokens, by what is between their quotes.
-    pub aliases: IndexMap<Vec<u8>, Alias>,
+    pub aliases: HashMap<Vec<u8>, Alias>,
     /// What `%start` names.
     start: Option<Lexeme>,
     /// The first left side.
@@ -101,7 +101,7 @@ impl Survey {
             lefts: SymbolTable::new(alloc),
             used: SymbolTable::new(alloc),
             ends: SymbolTable::new(alloc),
-            aliases: IndexMap::new(alloc),
+            aliases: HashMap::new(alloc),
             start: None,
             first: None,
         }

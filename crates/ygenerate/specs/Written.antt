@@ -62,13 +62,12 @@ module _ {D F : Type 0} (closes : D → Link F → Bool → D → Type 0)
     pub closed : closes old link done new
     pub failed : has_failed link ≡ true → done ≡ false
 
-  -- how writing to an open file ended: it took the text; or a call of it failed; or memory ran out
-  -- before anything was written, and nobody closed it
+  -- how writing to an open file ended: it took the text; or a call of it failed
   abbrev pub FillsBy : TablesValue → Text → F → D → D → Result (Unit {0}) GenerateFault → Type 0
   FillsBy t text file old new (Ok done) = Fills t text true file old new
   FillsBy t text file old new (Err (Unwritten failed)) =
       (failed ≡ text) × Fills t text false file old new
-  FillsBy t text file old new (Err (NoRoom failed)) = (failed ≡ text) × (new ≡ old)
+  FillsBy t text file old new (Err (NoRoom failed)) = ⊥
   FillsBy t text file old new (Err (Source fault)) = ⊥
   FillsBy t text file old new (Err (Unopened failed)) = ⊥
 
@@ -91,11 +90,9 @@ module _ {D F : Type 0} (opens : D → List ℕ → F → D → Type 0)
   WritesAll prefix t false old new = Writes (path_of prefix Table) t Table true old new
 
   module _ (unwritable : D → List ℕ → Type 0) (prefix : List ℕ) (t : TablesValue) where
-    -- why a text wasn't written to its file: it isn't open; or memory ran out before anything was
-    -- written; or a call of it failed
+    -- why a text wasn't written to its file: it isn't open, also where memory ran out; or a call of
+    -- it failed
     abbrev pub WriteFails : Text → D → D → GenerateFault → Type 0
-    WriteFails text old new (NoRoom failed) =
-        (failed ≡ text) × ((new ≡ old) ⊎ ((file : F) × opens old (path_of prefix text) file new))
     WriteFails text old new (Unwritten failed) =
         (failed ≡ text) × Writes (path_of prefix text) t text false old new
     WriteFails text old new fault = OpenFails unwritable (path_of prefix text) text old new fault

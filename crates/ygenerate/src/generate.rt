@@ -1,6 +1,6 @@
 //! The generator over a folder: a grammar file in, its table and its report out.
 
-ghost use Rattle.std.specs.Prelude.{◌≡◌, true, not, IfErr, IfOk, IfSome, OnOk, string_bytes};
+ghost use Rattle.std.specs.Prelude.{◌≡◌, true, not, IfErr, IfOk, OnOk, string_bytes};
 ghost use Rattle.ylalr.specs.Collection.{Guide, IsGuide};
 ghost use Rattle.ylink.specs.Link.{device_of, has_failed};
 ghost use Rattle.ylink.specs.Sends.{Grows};
@@ -12,7 +12,7 @@ use std::alloc::{AllocError, Global};
 use std::io::{ErrorKind, Write};
 use thiserror::Error;
 use yfolder::Folder;
-use ylink::Buffered;
+use ylink::{Buffer, Buffered};
 use ytables::{Counts, Link, Tables};
 
 /// The texts that can be written of a grammar.
@@ -45,7 +45,7 @@ pub enum GenerateFault {
     /// The file of this text can't be opened.
     #[error("cannot open what is to be written")]
     Unopened(Text),
-    /// Memory ran out before anything of this text was written.
+    /// Memory ran out before the file of this text was opened.
     #[error("no memory")]
     NoRoom(Text),
     /// A call of the file of this text failed.
@@ -101,33 +101,28 @@ fn put_text<W: Write>(tables: &Tables, text: Text, link: &mut Link<W>) -> bool
 }
 
 /// Writes a text to a file, through a buffer, which is then empty: the link to the file, whose flag
-/// says whether a call of it failed. `None` where memory ran out before anything was written.
-fn send<W: Write + Drop>(alloc: Global, tables: &Tables, text: Text, file: W) -> Option<Link<W>>
-    ensures { IfSome result (λ link. (u : Guide) → IsGuide tables.now.built u
-        → Takes (W.contents file) (W.contents (device_of link)) (has_failed link)
-        (text_of tables.now u text)) }
+/// says whether a call of it failed.
+fn send<W: Write + Drop>(tables: &Tables, text: Text, buffer: Buffer, file: W) -> Link<W>
+    ensures { (u : Guide) → IsGuide tables.now.built u
+        → Takes (W.contents file) (W.contents (device_of result)) (has_failed result)
+        (text_of tables.now u text) }
 {
-    let Ok(buffer) = Buffered::new(alloc, file) else {
-        return None;
-    };
-    let mut link = Link::new(buffer);
+    let mut link = Link::new(Buffered::over(buffer, file));
     let _whole = put_text(tables, text, &mut link);
-    Some(link.finish())
+    link.finish()
 }
 
 /// Writes a text to the file that was opened for it, flushes the file and closes it.
 fn write_file<D: Folder>(
-    alloc: Global,
     tables: &Tables,
     text: Text,
     folder: &mut D,
+    buffer: Buffer,
     file: D::File,
 ) -> Result<(), GenerateFault>
     ensures { FillsBy D.closes D.File.contents tables.now text file folder.old folder.new result }
 {
-    let Some(link) = send(alloc, tables, text, file) else {
-        return Err(GenerateFault::NoRoom(text));
-    };
+    let link = send(tables, text, buffer, file);
     if folder.close(link) {
         Ok(())
     } else {
@@ -135,7 +130,8 @@ fn write_file<D: Folder>(
     }
 }
 
-/// Opens the file of a text and writes it.
+/// Opens the file of a text and writes it. The memory of the buffer is asked for before the file is
+/// opened.
 fn write_text<D: Folder>(
     alloc: Global,
     tables: &Tables,
@@ -148,8 +144,11 @@ fn write_text<D: Folder>(
     ensures fails { IfErr result (WriteFails D.opens D.closes D.File.contents D.unwritable
         prefix.now tables.now text folder.old folder.new) }
 {
+    let Ok(buffer) = Buffer::new(alloc) else {
+        return Err(GenerateFault::NoRoom(text));
+    };
     match open_text(alloc, folder, prefix, text) {
-        Ok(file) => write_file(alloc, tables, text, folder, file),
+        Ok(file) => write_file(tables, text, folder, buffer, file),
         Err(fault) => Err(fault),
     }
 }

@@ -10,7 +10,7 @@ use Rattle.ysyntax.specs.declared.tree.RuleText.{RuleText as CodeRuleText}
 use Rattle.ysyntax.specs.declared.tree.Tree.{Tree as CodeTree}
 use Rattle.ydeclarations.specs.Outline.{Outlines, start_view}
 use Rattle.ysyntax.specs.TreeViews.{rule_text_view, name_view, tree_view}
-use Rattle.ysymbols.proofs.NameSteps.{false_true, length_texts}
+use Rattle.ysymbols.proofs.NameSteps.{false_true}
 use Rattle.ydeclarations.specs.declared.mistake.Mistake.TheVariants.{BadStart, Undefined}
 use Rattle.ydeclarations.specs.declared.mistake.Mistake.TheVariants.{Unproductive}
 use Rattle.ydeclarations.specs.declared.mistake.Refused.{Refused}
@@ -28,7 +28,7 @@ use Rattle.ysymbols.specs.Marking.{AreIn, IsMarked, RuleIn, numbered_grammar, ru
 use Rattle.ygrammar.specs.Meaning.{IsMeaning}
 use Rattle.ydeclarations.specs.Mistakes.{HasNone, Holds, order}
 use Rattle.ysymbols.specs.Names.{Name}
-use Rattle.ysymbols.specs.NameTexts.{texts, value_of}
+use Rattle.ysymbols.specs.NameTexts.{value_of}
 use Rattle.ygrammar.specs.Numbered.{rule_numbers, rule_precedence}
 use Rattle.ygrammar.specs.Numbers.{AreNumbers}
 use Rattle.ydeclarations.specs.Owned.{Refuses}
@@ -145,11 +145,11 @@ rules_given t ns given is ls cs vs a c d e h =
 pub numbered_rules : (tree : CodeTree) (n : Named) (o : Outline)
     (given : List (Option Precedence)) (cs : List CodeRuleText) (vs : List RuleValue) →
     AreNamed (tree_view tree) n → Outlines o (tree_view tree) → given ≡ n.given.items →
-    cs ≡ tree.rule_texts.items → vs ≡ map (rule_numbers (texts n.names) given)
+    cs ≡ tree.rule_texts.items → vs ≡ map (rule_numbers n.names given)
     (first_rule (map start_view o.starts.items) (map name_view o.lefts.items) ∷ rules_from [] 1
     (map rule_text_view cs)) → vs ≡ map (rule_numbers (symbols (tree_view tree))
     (token_precedences (tree_view tree))) (rules (tree_view tree))
-numbered_rules tree n o given cs vs a b g e h = rules_given (tree_view tree) (texts n.names) given
+numbered_rules tree n o given cs vs a b g e h = rules_given (tree_view tree) n.names given
     (map start_view o.starts.items) (map name_view o.lefts.items) (map rule_text_view cs) vs a.names
     b.starts b.lefts (ap (λ (xs : List CodeRuleText). map rule_text_view xs) e) h
     ∙ ap (λ (x : List (Option Precedence)). map (rule_numbers (symbols (tree_view tree)) x)
@@ -170,9 +170,8 @@ numbered_bare tree ns k n o given cs vs ws a b d e f h w =
 
 -- as many names as symbols
 pub symbols_counted : (t : Tree) (n : Named) (count : ℕ) → AreNamed t n →
-    count ≡ length n.names.keys → count ≡ length (symbols t)
-symbols_counted t n count a e = e ∙ sym (length_texts n.names.keys) ∙ ap
-    (λ (x : List Name). length x) a.names
+    count ≡ length n.names → count ≡ length (symbols t)
+symbols_counted t n count a e = e ∙ ap (λ (x : List Name). length x) a.names
 
 -- no more tokens than the limit of symbols
 pub few_tokens : (t : Tree) (own : List (Option ℕ)) → HasNone t order → own ≡ own_numbers t →
@@ -199,10 +198,10 @@ some_rules t vs e = subst (λ (xs : List RuleValue). 0 < length xs) (sym e) (ome
 -- the lists of a grammar have each number
 pub whole_of : (t : Tree) (n : Named) (vs : List RuleValue) (ts : List (Option (List ℕ)))
     (numbers : List ℕ) (marks : List Bool) → IsReady t n vs ts → AreNumbers n.own.numbers.items
-    numbers → length marks ≡ length (texts n.names) →
+    numbers → length marks ≡ length n.names →
     IsWhole (value_of n.names n.tokens numbers n.given.items vs ts marks)
 whole_of t n vs ts numbers marks r a b = record {
-  bare = subst WellFormed (sym (bare_same t n.tokens (length (texts n.names)) vs
+  bare = subst WellFormed (sym (bare_same t n.tokens (length n.names) vs
       r.named.tokens_first (ap (λ (x : List Name). length x) r.named.names) r.numbered))
       r.well_formed;
   names = refl;
@@ -224,7 +223,7 @@ whole_of t n vs ts numbers marks r a b = record {
 -- the parts are the meaning of the tree
 pub meaning_of : (t : Tree) (n : Named) (vs ws : List RuleValue) (ts : List (Option (List ℕ)))
     (numbers : List ℕ) (marks : List Bool) (k : ℕ) → IsReady t n vs ts →
-    AreNumbers n.own.numbers.items numbers → length marks ≡ k → k ≡ length (texts n.names) →
+    AreNumbers n.own.numbers.items numbers → length marks ≡ k → k ≡ length n.names →
     ws ≡ vs → ((s : ℕ) → s < k → (get_or marks s false ≡ true) ↔ IsReachable
     (numbered_grammar n.tokens k ws) s) →
     IsMeaning t (value_of n.names n.tokens numbers n.given.items vs ts marks)
@@ -234,7 +233,7 @@ meaning_of t n vs ws ts numbers marks k r a b e w h =
     bare_same t n.tokens k ws r.named.tokens_first l (w ∙ r.numbered) in
     record {
       sound = r.sound;
-      bare = bare_same t n.tokens (length (texts n.names)) vs r.named.tokens_first
+      bare = bare_same t n.tokens (length n.names) vs r.named.tokens_first
           (ap (λ (x : List Name). length x) r.named.names) r.numbered;
       names = r.named.names;
       numbers = subst (λ (x : List (Option ℕ)). AreNumbers x numbers) r.named.own.numbers a;

@@ -13,7 +13,6 @@ use Rattle.ysymbols.specs.Grammar.{ContextFree, GrammarValue, RuleValue}
 use Rattle.ysymbols.specs.Marking.{AreIn}
 use Rattle.ygrammar.specs.Meaning.{IsMeaning}
 use Rattle.ydeclarations.specs.Mistakes.{HasNone, Holds, IsFirst, order}
-use Rattle.ysymbols.specs.NameTexts.{texts}
 use Rattle.ygrammar.specs.Numbered.{rule_numbers}
 use Rattle.ygrammar.specs.OwnTable.{IsOwnTable}
 use Rattle.ygrammar.specs.Texts.{kept_text}
@@ -29,7 +28,7 @@ IsFirstRefused t refused.Memory = Unit {0}
 
 -- The symbols and the tables of the tokens, where none of the first four mistakes holds.
 pub record AreNamed (t : Tree) (n : Named) : Type 0 where
-  pub names : texts n.names ≡ symbols t
+  pub names : n.names ≡ symbols t
   pub tokens_first : n.tokens ≡ length (tokens t)
   pub given : n.given.items ≡ token_precedences t
   pub own : IsOwnTable t n.own

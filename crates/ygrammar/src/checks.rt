@@ -4,7 +4,6 @@
 ghost use Rattle.std.specs.Prelude.{◌≡◌, ◌||◌, ◌&&◌, None, Some, is_some, length, map, nat_le};
 ghost use Rattle.std.specs.Prelude.{nat_lt, not, IfSome};
 ghost use Rattle.std.specs.List.{find, last_or, list_any};
-ghost use Rattle.ysymbols.specs.NameTexts.{texts};
 ghost use Rattle.ysymbols.specs.Names.{is_among, number_in};
 ghost use Rattle.ydeclarations.specs.Printed.{printed_name};
 ghost use Rattle.ygrammar.specs.Numbered.{is_between, is_long};
@@ -22,7 +21,7 @@ use ysyntax::tree::{Identifier, NameAt, Occurrence};
 /// The place of the first of these names that is a token.
 pub fn first_token(names: &[NameAt], tokens: &SymbolTable) -> Option<usize>
     ensures { result
-        ≡ option_view (λ n. n.at) (find (λ n. is_among (texts tokens.now) (name_view n))
+        ≡ option_view (λ n. n.at) (find (λ n. is_among tokens.now (name_view n))
         names.now) }
 {
     for name in names {
@@ -36,7 +35,7 @@ pub fn first_token(names: &[NameAt], tokens: &SymbolTable) -> Option<usize>
 /// The place of the first of these names that is not a symbol.
 pub fn first_unknown(names: &[NameAt], symbols: &SymbolTable) -> Option<usize>
     ensures { result
-        ≡ option_view (λ n. n.at) (find (λ n. not (is_among (texts symbols.now) (name_view n)))
+        ≡ option_view (λ n. n.at) (find (λ n. not (is_among symbols.now (name_view n)))
         names.now) }
 {
     for name in names {
@@ -51,7 +50,7 @@ pub fn first_unknown(names: &[NameAt], symbols: &SymbolTable) -> Option<usize>
 pub fn first_undefined(occurrences: &[Occurrence], symbols: &SymbolTable) -> Option<usize>
     ensures { result
         ≡ option_view (λ m. m.at)
-        (find (λ m. not (is_among (texts symbols.now) (printed_name (occurrence_view m))))
+        (find (λ m. not (is_among symbols.now (printed_name (occurrence_view m))))
         occurrences.now) }
 {
     for one in occurrences {
@@ -65,8 +64,8 @@ pub fn first_undefined(occurrences: &[Occurrence], symbols: &SymbolTable) -> Opt
 /// Whether a name or literal is a symbol, and not one of the first `tokens`.
 fn is_nonterminal(who: Identifier, symbols: &SymbolTable, tokens: usize) -> bool
     ensures { result
-        ≡ is_between tokens (length (texts symbols.now))
-        (number_in (texts symbols.now) (printed_name (identifier_view who.entry))) }
+        ≡ is_between tokens (length symbols.now)
+        (number_in symbols.now (printed_name (identifier_view who.entry))) }
 {
     let number = number_of(symbols, who);
     tokens <= number && number < symbols.len()
@@ -80,8 +79,8 @@ pub fn first_nonterminal(
 ) -> Option<usize>
     ensures { result
         ≡ option_view (λ m. m.at)
-        (find (λ m. is_between tokens (length (texts symbols.now))
-        (number_in (texts symbols.now) (printed_name (occurrence_view m)))) occurrences.now) }
+        (find (λ m. is_between tokens (length symbols.now)
+        (number_in symbols.now (printed_name (occurrence_view m)))) occurrences.now) }
 {
     for one in occurrences {
         if is_nonterminal(one.who, symbols, tokens) {
@@ -95,8 +94,8 @@ pub fn first_nonterminal(
 pub fn bad_start(starts: &[Started], symbols: &SymbolTable, tokens: usize) -> Option<usize>
     ensures found { is_some result
         ≡ (nat_le 2 (length starts.now)
-        || list_any (λ i. not (is_between tokens (length (texts symbols.now))
-        (number_in (texts symbols.now) (printed_name i)))) (map start_view starts.now)) }
+        || list_any (λ i. not (is_between tokens (length symbols.now)
+        (number_in symbols.now (printed_name i)))) (map start_view starts.now)) }
     ensures place { IfSome result (λ at. option_view (λ s. s.at) (last_or None starts.now)
         ≡ Some at) }
 {

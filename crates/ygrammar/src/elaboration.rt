@@ -11,7 +11,6 @@ ghost use Rattle.ydeclarations.specs.Mistakes.{Holds};
 ghost use Rattle.ydeclarations.specs.Elaboration.{symbols as symbols_of_tree, tokens as tokens_of_tree};
 ghost use Rattle.ydeclarations.specs.Elaboration.{bare_of, tokens_of};
 ghost use Rattle.ysymbols.specs.Marking.{AreIn, numbered_grammar};
-ghost use Rattle.ysymbols.specs.NameTexts.{texts};
 ghost use Rattle.ygrammar.specs.Numbered.{inner_after};
 ghost use Rattle.ysyntax.specs.TreeTexts.{RuleTextStands};
 ghost use Rattle.ysyntax.specs.Tree.{IsTree, Tree as TreeOf, yield};
@@ -72,11 +71,11 @@ impl Named {
     /// The tokens of a file alone, with nothing given to them yet. It fails only when memory runs
     /// out.
     fn of_tokens(alloc: Global, outline: &Outline) -> Result<Named, AllocError>
-        ensures names { IfOk result (λ n. texts n.names
+        ensures names { IfOk result (λ n. n.names
             ≡ tokens_of (map listed_view outline.now.listed.items)
             (map occurrence_view outline.now.declared.items
             ++ map occurrence_view outline.now.used.items)) }
-        ensures tokens { IfOk result (λ n. n.tokens ≡ length (texts n.names)) }
+        ensures tokens { IfOk result (λ n. n.tokens ≡ length n.names) }
     {
         let names = tokens(alloc, outline)?;
         Ok(Named {
@@ -92,7 +91,7 @@ impl Named {
     fn fill(&mut self, alloc: Global, tree: &Tree, outline: &Outline) -> Result<(), Refused>
         requires outline { Outlines outline.now (tree_view tree.now) }
         requires counted { inner_after 1 (tree_view tree.now).rule_texts < 2 ^ 64 }
-        requires names { texts self.old.names ≡ tokens_of_tree (tree_view tree.now) }
+        requires names { self.old.names ≡ tokens_of_tree (tree_view tree.now) }
         requires tokens { self.old.tokens ≡ length (tokens_of_tree (tree_view tree.now)) }
         ensures filled { OnOk result (AreNamed (tree_view tree.now) self.new) }
         ensures refused { IfErr result (IsFirstRefused (tree_view tree.now)) }
@@ -118,8 +117,8 @@ fn add_nonterminals(
 ) -> Result<(), Refused>
     requires outline { Outlines outline.now (tree_view tree.now) }
     requires counted { inner_after 1 (tree_view tree.now).rule_texts < 2 ^ 64 }
-    requires tokens { texts names.old ≡ tokens_of_tree (tree_view tree.now) }
-    ensures symbols { OnOk result (texts names.new ≡ symbols_of_tree (tree_view tree.now)) }
+    requires tokens { names.old ≡ tokens_of_tree (tree_view tree.now) }
+    ensures symbols { OnOk result (names.new ≡ symbols_of_tree (tree_view tree.now)) }
     ensures defined { Clears (tree_view tree.now) Undefined result }
     ensures place { Places outline.now (tree_view tree.now) result }
 {
@@ -152,7 +151,7 @@ fn refuse_unproductive(
     requires within { tokens ≤ symbols }
     requires in_range { AreIn symbols rules.now }
     ensures fruitful { Fruitful (numbered_grammar tokens symbols rules.now) result }
-    ensures place { (t : TreeOf) → Outlines outline.now t → texts names.now ≡ symbols_of_tree t →
+    ensures place { (t : TreeOf) → Outlines outline.now t → names.now ≡ symbols_of_tree t →
         numbered_grammar tokens symbols rules.now ≡ bare_of t → ShowsBarren t →
         Places outline.now t result }
 {
@@ -201,8 +200,8 @@ fn refuse_rules(
     named: &Named,
     rules: &[Rule],
 ) -> Result<(), Refused>
-    requires within { named.now.tokens ≤ length (texts named.now.names) }
-    requires in_range { AreIn (length (texts named.now.names)) rules.now }
+    requires within { named.now.tokens ≤ length named.now.names }
+    requires in_range { AreIn (length named.now.names) rules.now }
     ensures decides { (t : TreeOf) → Outlines outline.now t → AreNamed t named.now →
         AreNumbered t rules.now → (Holds t BadStart → ⊥) → Decides t result }
     ensures place { (t : TreeOf) → Outlines outline.now t → AreNamed t named.now →
@@ -264,7 +263,7 @@ fn barren_among(
     requires defined { Holds (tree_view tree.now) Undefined → ⊥ }
     requires started { Holds (tree_view tree.now) BadStart → ⊥ }
     requires outline { Outlines outline.now (tree_view tree.now) }
-    requires names { texts named.now.names ≡ symbols_of_tree (tree_view tree.now) }
+    requires names { named.now.names ≡ symbols_of_tree (tree_view tree.now) }
     requires tokens { named.now.tokens ≡ length (tokens_of_tree (tree_view tree.now)) }
     ensures { (ds rs : List Site) → OutlineSites outline.now ds rs →
         IfOk result (λ v. AllAt (λ r. IsBarren (tree_view tree.now) r) (ds ++ rs) v.items) }

@@ -4,7 +4,6 @@ ghost use Rattle.std.specs.Prelude.{◌≡◌, ◌<◌, ◌≤◌, ℕ, IfOk, Ma
 ghost use Rattle.std.specs.Prelude.{[], slice_set, ◌++◌, IfErr, List, Option, map};
 ghost use Rattle.ydeclarations.specs.Elaboration.{tokens as tokens_of_tree};
 ghost use Rattle.ysymbols.specs.Grammar.{number_bound};
-ghost use Rattle.ysymbols.specs.NameTexts.{texts};
 ghost use Rattle.ygrammar.specs.Numbers.{AreHolders, FaultyAt, HasNumber, IsHolders, IsOwn};
 ghost use Rattle.ygrammar.specs.Numbers.{is_held, with_holder};
 ghost use Rattle.ydeclarations.specs.Outline.{Outlines, listed_view};
@@ -127,7 +126,7 @@ fn hold_given(holders: &mut Vec<Holders>, tokens: &SymbolTable, listed: &[Listed
     ensures each { length holders.new.items ≡ number_bound }
     ensures given { (own : List (Option ℕ)) → AreHolders number_bound own holders.old.items →
         (m : ℕ) → IsHolders (slice_index_or holders.new.items m Nobody)
-        (HasNumber (texts tokens.now) own (map listed_view listed.now) (length listed.now) m) }
+        (HasNumber tokens.now own (map listed_view listed.now) (length listed.now) m) }
 {
     for one in listed {
         if let Some(digits) = one.digits {
@@ -193,10 +192,10 @@ pub fn own_table(
     tokens: &SymbolTable,
     outline: &Outline,
 ) -> Result<OwnTable, Refused>
-    ensures told { (t : TreeOf) → Outlines outline.now t → texts tokens.now ≡ tokens_of_tree t →
+    ensures told { (t : TreeOf) → Outlines outline.now t → tokens.now ≡ tokens_of_tree t →
         Owns t result }
     ensures place { (t : TreeOf) (ds rs : List Site) → Outlines outline.now t →
-        OutlineSites outline.now ds rs → texts tokens.now ≡ tokens_of_tree t →
+        OutlineSites outline.now ds rs → tokens.now ≡ tokens_of_tree t →
         IfErr result (IsPlaced t (ds ++ rs)) }
 {
     let given = given_numbers(alloc, tokens, &outline.listed)?;

@@ -4,7 +4,6 @@
 ghost use Rattle.std.specs.Prelude.{◌≡◌, ◌++◌, ◌∷◌, IfErr, List, length, map};
 ghost use Rattle.ydeclarations.specs.Elaboration.{rules as rules_of_tree, symbols as symbols_of_tree};
 ghost use Rattle.ydeclarations.specs.Elaboration.{token_precedences, tokens as tokens_of_tree};
-ghost use Rattle.ysymbols.specs.NameTexts.{texts};
 ghost use Rattle.ygrammar.specs.Numbered.{rule_numbers};
 ghost use Rattle.ydeclarations.specs.Outline.{Outlines};
 ghost use Rattle.ydeclarations.specs.OutlineSites.{IsPlaced, OutlineSites};
@@ -26,10 +25,10 @@ use ysymbols::names::SymbolTable;
 
 /// Refuses a token that is a left side, or is named by `%type`.
 pub fn refuse_token_left(outline: &Outline, tokens: &SymbolTable) -> Result<(), Refused>
-    ensures clears { (t : TreeOf) → Outlines outline.now t → texts tokens.now ≡ tokens_of_tree t →
+    ensures clears { (t : TreeOf) → Outlines outline.now t → tokens.now ≡ tokens_of_tree t →
         Clears t TokenLeft result }
     ensures place { (t : TreeOf) (ds rs : List Site) → OutlineSites outline.now ds rs →
-        texts tokens.now ≡ tokens_of_tree t → IfErr result (IsPlaced t (ds ++ rs)) }
+        tokens.now ≡ tokens_of_tree t → IfErr result (IsPlaced t (ds ++ rs)) }
 {
     let what = Mistake::TokenLeft;
     if let Some(at) = first_token(&outline.typed, tokens) {
@@ -43,10 +42,10 @@ pub fn refuse_token_left(outline: &Outline, tokens: &SymbolTable) -> Result<(), 
 
 /// Refuses a name in a body, a `%prec` or a `%type` that is not a symbol.
 pub fn refuse_undefined(outline: &Outline, symbols: &SymbolTable) -> Result<(), Refused>
-    ensures clears { (t : TreeOf) → Outlines outline.now t → texts symbols.now ≡ symbols_of_tree t →
+    ensures clears { (t : TreeOf) → Outlines outline.now t → symbols.now ≡ symbols_of_tree t →
         Clears t Undefined result }
     ensures place { (t : TreeOf) (ds rs : List Site) → OutlineSites outline.now ds rs →
-        texts symbols.now ≡ symbols_of_tree t → IfErr result (IsPlaced t (ds ++ rs)) }
+        symbols.now ≡ symbols_of_tree t → IfErr result (IsPlaced t (ds ++ rs)) }
 {
     let what = Mistake::Undefined;
     if let Some(at) = first_unknown(&outline.typed, symbols) {
@@ -60,7 +59,7 @@ pub fn refuse_undefined(outline: &Outline, symbols: &SymbolTable) -> Result<(), 
 
 /// Refuses a `%start` that stands twice or names no nonterminal.
 pub fn refuse_start(outline: &Outline, symbols: &SymbolTable, tokens: usize) -> Result<(), Refused>
-    ensures clears { (t : TreeOf) → Outlines outline.now t → texts symbols.now ≡ symbols_of_tree t →
+    ensures clears { (t : TreeOf) → Outlines outline.now t → symbols.now ≡ symbols_of_tree t →
         tokens ≡ length (tokens_of_tree t) → Clears t BadStart result }
     ensures place { (t : TreeOf) (ds rs : List Site) → OutlineSites outline.now ds rs →
         IfErr result (IsPlaced t (ds ++ rs)) }
@@ -76,10 +75,10 @@ pub fn refuse_start(outline: &Outline, symbols: &SymbolTable, tokens: usize) -> 
 
 /// Refuses a `%prec` that names a nonterminal.
 pub fn refuse_prec(outline: &Outline, symbols: &SymbolTable, tokens: usize) -> Result<(), Refused>
-    ensures clears { (t : TreeOf) → Outlines outline.now t → texts symbols.now ≡ symbols_of_tree t →
+    ensures clears { (t : TreeOf) → Outlines outline.now t → symbols.now ≡ symbols_of_tree t →
         tokens ≡ length (tokens_of_tree t) → Clears t BadPrec result }
     ensures place { (t : TreeOf) (ds rs : List Site) → OutlineSites outline.now ds rs →
-        texts symbols.now ≡ symbols_of_tree t → tokens ≡ length (tokens_of_tree t) →
+        symbols.now ≡ symbols_of_tree t → tokens ≡ length (tokens_of_tree t) →
         IfErr result (IsPlaced t (ds ++ rs)) }
 {
     match first_nonterminal(&outline.precs, symbols, tokens) {
@@ -94,7 +93,7 @@ pub fn refuse_prec(outline: &Outline, symbols: &SymbolTable, tokens: usize) -> R
 /// Refuses more symbols, rules or symbols in a body than the limits.
 pub fn refuse_limit(symbols: &SymbolTable, rules: &[Rule]) -> Result<(), Refused>
     ensures place { (t : TreeOf) (ss : List Site) → IfErr result (IsPlaced t ss) }
-    ensures clears { (t : TreeOf) → texts symbols.now ≡ symbols_of_tree t →
+    ensures clears { (t : TreeOf) → symbols.now ≡ symbols_of_tree t →
         rules.now
         ≡ map (rule_numbers (symbols_of_tree t) (token_precedences t)) (rules_of_tree t) →
         Clears t Limit result }

@@ -6,7 +6,6 @@ ghost use Rattle.std.specs.List.{flat_map, AllByRecursion};
 ghost use Rattle.ydeclarations.specs.Elaboration.{body_from, final_of, first_rule, inner_name};
 ghost use Rattle.ydeclarations.specs.Elaboration.{inner_rule, or_else, precedence_at, rule_left};
 ghost use Rattle.ydeclarations.specs.Elaboration.{rules, rules_from, start_symbol};
-ghost use Rattle.ysymbols.specs.NameTexts.{texts};
 ghost use Rattle.ysymbols.specs.Names.{with_names, number_in};
 ghost use Rattle.ydeclarations.specs.Outline.{start_view};
 ghost use Rattle.ygrammar.specs.Numbered.{chosen_token, inner_after, inner_numbers, last_token};
@@ -70,8 +69,8 @@ fn intern_inner(
     k: usize,
 ) -> Result<usize, AllocError>
     requires { (body_from k (map body_part_view items.now)).next < 2 ^ 64 }
-    ensures names { OnOk result (texts names.new
-        ≡ with_names (texts names.old)
+    ensures names { OnOk result (names.new
+        ≡ with_names names.old
         (map rule_left (body_from k (map body_part_view items.now)).inner)) }
     ensures next { IfOk result (λ n. n ≡ (body_from k (map body_part_view items.now)).next) }
 {
@@ -102,8 +101,8 @@ fn intern_lefts(
     rule_texts: &[RuleText],
 ) -> Result<(), AllocError>
     requires { inner_after 1 (map rule_text_view rule_texts.now) < 2 ^ 64 }
-    ensures { OnOk result (texts names.new
-        ≡ with_names (texts names.old)
+    ensures { OnOk result (names.new
+        ≡ with_names names.old
         (map rule_left (rules_from [] 1 (map rule_text_view rule_texts.now)))) }
 {
     let mut before: &[u8] = b"";
@@ -124,8 +123,8 @@ pub fn intern_nonterminals(
     rule_texts: &[RuleText],
 ) -> Result<(), AllocError>
     requires { inner_after 1 (map rule_text_view rule_texts.now) < 2 ^ 64 }
-    ensures { OnOk result (texts names.new
-        ≡ with_names (texts names.old) (codes "$accept"
+    ensures { OnOk result (names.new
+        ≡ with_names names.old (codes "$accept"
         ∷ map rule_left (rules_from [] 1 (map rule_text_view rule_texts.now)))) }
 {
     intern(alloc, names, b"$accept")?;
@@ -140,8 +139,8 @@ fn push_inner(
     rules: &mut Vec<Rule>,
 ) -> Result<Sym, AllocError>
     ensures rules { OnOk result (rules.new.items
-        ≡ rules.old.items ++ inner_numbers (texts names.now) (inner_rule k []) ∷ []) }
-    ensures left { IfOk result (λ s. s ≡ number_in (texts names.now) (inner_name k)) }
+        ≡ rules.old.items ++ inner_numbers names.now (inner_rule k []) ∷ []) }
+    ensures left { IfOk result (λ s. s ≡ number_in names.now (inner_name k)) }
 {
     let name = inner_name(alloc, k)?;
     let left = number_in(names, &name);
@@ -168,11 +167,11 @@ impl NumberedBody {
         requires { (body_from self.old.next (body_part_view part.now ∷ [])).next < 2 ^ 64 }
         ensures rules { OnOk result (rules.new.items
             ≡ rules.old.items
-            ++ map (inner_numbers (texts names.now))
+            ++ map (inner_numbers names.now)
             (body_from self.old.next (body_part_view part.now ∷ [])).inner) }
         ensures symbols { OnOk result (self.new.symbols.items
             ≡ self.old.symbols.items
-            ++ map (number_in (texts names.now))
+            ++ map (number_in names.now)
             (body_from self.old.next (body_part_view part.now ∷ [])).symbols) }
         ensures next { OnOk result (self.new.next
             ≡ (body_from self.old.next (body_part_view part.now ∷ [])).next) }
@@ -201,10 +200,10 @@ fn number_body(
     requires { (body_from k (map body_part_view items.now)).next < 2 ^ 64 }
     ensures rules { OnOk result (rules.new.items
         ≡ rules.old.items
-        ++ map (inner_numbers (texts names.now))
+        ++ map (inner_numbers names.now)
         (body_from k (map body_part_view items.now)).inner) }
     ensures symbols { IfOk result (λ b. b.symbols.items
-        ≡ map (number_in (texts names.now)) (body_from k (map body_part_view items.now)).symbols) }
+        ≡ map (number_in names.now) (body_from k (map body_part_view items.now)).symbols) }
     ensures next { IfOk result (λ b. b.next ≡ (body_from k (map body_part_view items.now)).next) }
 {
     let mut body = NumberedBody {
@@ -239,7 +238,7 @@ fn rule_precedence(
     body: &[Sym],
 ) -> Option<Precedence>
     ensures { result
-        ≡ precedence_at given.now (chosen_token (texts names.now) (length given.now)
+        ≡ precedence_at given.now (chosen_token names.now (length given.now)
         (option_view occurrence_view prec.entry) body.now) }
 {
     let token = match prec {
@@ -263,7 +262,7 @@ fn push_rules(
 ) -> Result<(), AllocError>
     requires { inner_after 1 (map rule_text_view rule_texts.now) < 2 ^ 64 }
     ensures { OnOk result (rules.new.items
-        ≡ rules.old.items ++ map (rule_numbers (texts names.now) given.now)
+        ≡ rules.old.items ++ map (rule_numbers names.now given.now)
         (rules_from [] 1 (map rule_text_view rule_texts.now))) }
 {
     let mut before: &[u8] = b"";
@@ -344,7 +343,7 @@ pub fn kept_texts(alloc: Global, source: &[u8], tree: &Tree) -> Result<Texts, Al
 /// The number of the start symbol: the one that `%start` names, or the first left side.
 fn start_symbol(names: &SymbolTable, starts: &[Started], lefts: &[NameAt]) -> Sym
     ensures { result
-        ≡ number_in (texts names.now)
+        ≡ number_in names.now
         (start_symbol (map start_view starts.now) (map name_view lefts.now)) }
 {
     match starts {
@@ -364,7 +363,7 @@ fn first_rule(
     outline: &Outline,
 ) -> Result<Rule, AllocError>
     ensures { IfOk result (λ r. r
-        ≡ rule_numbers (texts names.now) given.now
+        ≡ rule_numbers names.now given.now
         (first_rule (map start_view outline.now.starts.items)
         (map name_view outline.now.lefts.items))) }
 {
@@ -387,7 +386,7 @@ pub fn number_rules(
 ) -> Result<Vec<Rule>, AllocError>
     requires { inner_after 1 (map rule_text_view rule_texts.now) < 2 ^ 64 }
     ensures { IfOk result (λ v. v.items
-        ≡ map (rule_numbers (texts names.now) given.now)
+        ≡ map (rule_numbers names.now given.now)
         (first_rule (map start_view outline.now.starts.items)
         (map name_view outline.now.lefts.items) ∷ rules_from [] 1 (map rule_text_view
         rule_texts.now))) }

@@ -2,13 +2,11 @@
 
 ghost use Rattle.std.specs.Prelude.{◌≡◌, ◌++◌, ◌∷◌, [], filter, map, codes, IfOk, OnOk};
 ghost use Rattle.ydeclarations.specs.Elaboration.{is_literal, listed_name, token_names_of, tokens_of};
-ghost use Rattle.ysymbols.specs.NameTexts.{texts};
 ghost use Rattle.ysymbols.specs.Names.{is_among, with_names};
 ghost use Rattle.ydeclarations.specs.Printed.{printed_name};
 ghost use Rattle.ydeclarations.specs.Outline.{listed_view};
 ghost use Rattle.ysyntax.specs.TreeViews.{occurrence_view};
 
-use indexmap::IndexSet;
 use std::alloc::{AllocError, Global};
 use ydeclarations::identifiers::{intern_identifier, is_named};
 use ydeclarations::outline::{Listed, Outline};
@@ -16,8 +14,8 @@ use ysymbols::names::{SymbolTable, intern};
 use ysyntax::tree::{Identifier, Occurrence};
 
 fn intern_first(alloc: Global, names: &mut SymbolTable) -> Result<(), AllocError>
-    ensures { OnOk result (texts names.new
-        ≡ with_names (texts names.old) (codes "$end" ∷ codes "error" ∷ [])) }
+    ensures { OnOk result (names.new
+        ≡ with_names names.old (codes "$end" ∷ codes "error" ∷ [])) }
 {
     intern(alloc, names, b"$end")?;
     intern(alloc, names, b"error")
@@ -25,9 +23,9 @@ fn intern_first(alloc: Global, names: &mut SymbolTable) -> Result<(), AllocError
 
 /// The end and `error`, which every grammar has.
 fn first_tokens(alloc: Global) -> Result<SymbolTable, AllocError>
-    ensures { IfOk result (λ v. texts v ≡ codes "$end" ∷ codes "error" ∷ []) }
+    ensures { IfOk result (λ v. v ≡ codes "$end" ∷ codes "error" ∷ []) }
 {
-    let mut names = IndexSet::new(alloc);
+    let mut names = SymbolTable::new(alloc);
     match intern_first(alloc, &mut names) {
         Ok(()) => Ok(names),
         // A call, here and below, which keeps the proofs short.
@@ -43,8 +41,8 @@ fn intern_listed(
     names: &mut SymbolTable,
     listed: &[Listed],
 ) -> Result<(), AllocError>
-    ensures { OnOk result (texts names.new
-        ≡ with_names (texts names.old) (map listed_name (map listed_view listed.now))) }
+    ensures { OnOk result (names.new
+        ≡ with_names names.old (map listed_name (map listed_view listed.now))) }
 {
     for one in listed {
         intern_identifier(alloc, names, one.who.who)?;
@@ -57,8 +55,8 @@ fn intern_literals(
     names: &mut SymbolTable,
     occurrences: &[Occurrence],
 ) -> Result<(), AllocError>
-    ensures { OnOk result (texts names.new
-        ≡ with_names (texts names.old)
+    ensures { OnOk result (names.new
+        ≡ with_names names.old
         (map printed_name (filter is_literal (map occurrence_view occurrences.now)))) }
 {
     for occurrence in occurrences {
@@ -71,8 +69,8 @@ fn intern_literals(
 
 /// Adds the names that are listed, and the literals.
 fn intern_all(alloc: Global, names: &mut SymbolTable, outline: &Outline) -> Result<(), AllocError>
-    ensures { OnOk result (texts names.new
-        ≡ with_names (texts names.old) (map listed_name (map listed_view outline.now.listed.items)
+    ensures { OnOk result (names.new
+        ≡ with_names names.old (map listed_name (map listed_view outline.now.listed.items)
         ++ map printed_name (filter is_literal (map occurrence_view outline.now.declared.items
         ++ map occurrence_view outline.now.used.items)))) }
 {
@@ -83,7 +81,7 @@ fn intern_all(alloc: Global, names: &mut SymbolTable, outline: &Outline) -> Resu
 
 /// The names of the tokens, in any order.
 fn token_names(alloc: Global, outline: &Outline) -> Result<SymbolTable, AllocError>
-    ensures { IfOk result (λ v. texts v
+    ensures { IfOk result (λ v. v
         ≡ with_names [] (token_names_of (map listed_view outline.now.listed.items)
         (map occurrence_view outline.now.declared.items
         ++ map occurrence_view outline.now.used.items))) }
@@ -105,9 +103,9 @@ fn intern_those(
     names: &SymbolTable,
     occurrences: &[Occurrence],
 ) -> Result<(), AllocError>
-    ensures { OnOk result (texts tokens.new
-        ≡ with_names (texts tokens.old)
-        (filter (is_among (texts names.now)) (map printed_name (map occurrence_view
+    ensures { OnOk result (tokens.new
+        ≡ with_names tokens.old
+        (filter (is_among names.now) (map printed_name (map occurrence_view
         occurrences.now)))) }
 {
     for occurrence in occurrences {
@@ -125,9 +123,9 @@ fn intern_appearing(
     names: &SymbolTable,
     outline: &Outline,
 ) -> Result<(), AllocError>
-    ensures { OnOk result (texts tokens.new
-        ≡ with_names (texts tokens.old)
-        (filter (is_among (texts names.now)) (map printed_name (map occurrence_view
+    ensures { OnOk result (tokens.new
+        ≡ with_names tokens.old
+        (filter (is_among names.now) (map printed_name (map occurrence_view
         outline.now.declared.items ++ map occurrence_view outline.now.used.items)))) }
 {
     intern_those(alloc, tokens, names, &outline.declared)?;
@@ -140,9 +138,9 @@ fn tokens_among(
     names: &SymbolTable,
     outline: &Outline,
 ) -> Result<SymbolTable, AllocError>
-    ensures { IfOk result (λ v. texts v
+    ensures { IfOk result (λ v. v
         ≡ with_names (codes "$end" ∷ codes "error" ∷ [])
-        (filter (is_among (texts names.now)) (map printed_name (map occurrence_view
+        (filter (is_among names.now) (map printed_name (map occurrence_view
         outline.now.declared.items ++ map occurrence_view outline.now.used.items)))) }
 {
     let mut tokens = first_tokens(alloc)?;
@@ -158,7 +156,7 @@ fn tokens_among(
 /// The tokens by number: the end, `error`, and the others in the order of their first appearance.
 /// It fails only when memory runs out.
 pub fn tokens(alloc: Global, outline: &Outline) -> Result<SymbolTable, AllocError>
-    ensures { IfOk result (λ v. texts v
+    ensures { IfOk result (λ v. v
         ≡ tokens_of (map listed_view outline.now.listed.items)
         (map occurrence_view outline.now.declared.items ++ map occurrence_view
         outline.now.used.items)) }

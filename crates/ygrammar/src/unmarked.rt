@@ -2,7 +2,6 @@
 
 ghost use Rattle.std.specs.Prelude.{◌≡◌, filter, map, not, slice_index_or, true, unwrap_or, IfOk};
 ghost use Rattle.std.specs.List.{find};
-ghost use Rattle.ysymbols.specs.NameTexts.{texts};
 ghost use Rattle.ysymbols.specs.Names.{number_in};
 ghost use Rattle.ysymbols.specs.Sources.{option_view};
 ghost use Rattle.ysyntax.specs.TreeViews.{name_view};
@@ -14,7 +13,7 @@ use ysyntax::tree::NameAt;
 /// Whether a name is a symbol that isn't marked.
 fn is_unmarked(left: &NameAt, names: &SymbolTable, marks: &[bool]) -> bool
     ensures { result
-        ≡ not (slice_index_or marks.now (number_in (texts names.now) (name_view left.now)) true) }
+        ≡ not (slice_index_or marks.now (number_in names.now (name_view left.now)) true) }
 {
     let s = number_in(names, left.name);
     s < marks.len() && !marks[s]
@@ -25,7 +24,7 @@ fn is_unmarked(left: &NameAt, names: &SymbolTable, marks: &[bool]) -> bool
 pub fn unmarked_left(lefts: &[NameAt], names: &SymbolTable, marks: &[bool]) -> usize
     ensures { result
         ≡ unwrap_or (option_view (λ l. l.at)
-        (find (λ l. not (slice_index_or marks.now (number_in (texts names.now) (name_view l))
+        (find (λ l. not (slice_index_or marks.now (number_in names.now (name_view l))
         true)) lefts.now)) 0 }
 {
     for left in lefts {
@@ -46,7 +45,7 @@ pub fn unmarked_lefts(
 ) -> Result<Vec<usize>, AllocError>
     ensures { IfOk result (λ v. v.items
         ≡ map (λ l. l.at)
-        (filter (λ l. not (slice_index_or marks.now (number_in (texts names.now) (name_view l))
+        (filter (λ l. not (slice_index_or marks.now (number_in names.now (name_view l))
         true)) lefts.now)) }
 {
     let mut places = Vec::new(alloc);

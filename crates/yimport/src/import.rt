@@ -7,8 +7,8 @@ use crate::pieces::Pieces;
 use crate::refusal::{Refusal, Trouble};
 use crate::spelling::Spelling;
 use crate::symbols::{Ended, Expected, Work};
-use indexmap::IndexMap;
 use std::alloc::Global;
+use std::collections::HashMap;
 use std::mem;
 use yforeign::groups::{Group, Head, groups_of};
 use yforeign::lexeme::{Lexeme, Span};
@@ -105,7 +105,7 @@ impl Work<'_> {
     fn imported(&mut self, lexemes: Vec<Lexeme>) -> Imported {
         let alloc = self.alloc;
         let survey = mem::replace(&mut self.survey, Survey::new(alloc));
-        let made = mem::replace(&mut self.made, IndexMap::new(alloc));
+        let made = mem::replace(&mut self.made, HashMap::new(alloc));
         let changed = mem::replace(&mut self.changed, Changed::new(alloc));
         let Changed { text, pieces } = changed;
         Imported {

@@ -1,8 +1,8 @@
 //! How the symbols of a file are spelled in what it becomes.
 
 use crate::note::Reason;
-use indexmap::IndexMap;
 use std::alloc::{AllocError, Global};
+use std::collections::HashMap;
 use yforeign::lexeme::{Kind, Lexeme};
 use yforeign::survey::{Survey, inside, is_text, with_quotes};
 use ylexemes::literal::literal_at;
@@ -26,7 +26,7 @@ pub struct Spelling {
     /// What names and strings of the file are.
     survey: Survey,
     /// The name made for each string that stands for no token.
-    made: IndexMap<Vec<u8>, Made>,
+    made: HashMap<Vec<u8>, Made>,
 }
 
 impl Drop for Spelling {
@@ -120,7 +120,7 @@ fn put(strings: &mut [Option<Lexeme>], symbol: Option<Sym>, text: Lexeme) {
 
 impl Spelling {
     /// What a file said of its symbols, with the names that were made.
-    pub fn new(survey: Survey, made: IndexMap<Vec<u8>, Made>) -> Spelling {
+    pub fn new(survey: Survey, made: HashMap<Vec<u8>, Made>) -> Spelling {
         Spelling { survey, made }
     }
 

@@ -6,8 +6,8 @@ use crate::note::Reason;
 use crate::numbers::Numbered;
 use crate::refusal::{Refusal, Trouble};
 use crate::spelling::{Made, made_name, other_name, unbroken};
-use indexmap::IndexMap;
 use std::alloc::{AllocError, Global};
+use std::collections::HashMap;
 use yforeign::lexeme::{Lexeme, Span};
 use yforeign::survey::{Survey, inside, is_text};
 use ysymbols::let_go;
@@ -42,7 +42,7 @@ pub struct Work<'a> {
     /// The changes so far.
     pub edits: Edits<'a>,
     /// The name made for each string that stands for no token.
-    pub made: IndexMap<Vec<u8>, Made>,
+    pub made: HashMap<Vec<u8>, Made>,
     /// The last of these numbers.
     last_made: usize,
     /// The numbers of tokens that `yacc` can't have, and that of `error`.
@@ -52,7 +52,7 @@ pub struct Work<'a> {
     /// The greatest number that the file gives.
     pub greatest: usize,
     /// The names that have no dashes any more, and where one stands that became each.
-    renamed: IndexMap<Vec<u8>, Lexeme>,
+    renamed: HashMap<Vec<u8>, Lexeme>,
     /// Where the `%precedence` stands for each level that comes from one.
     pub levels: Vec<Option<Span>>,
     /// The shift/reduce conflicts that the file expects.
@@ -89,12 +89,12 @@ impl<'a> Work<'a> {
             source,
             survey: Survey::new(alloc),
             edits: Edits::new(alloc, source),
-            made: IndexMap::new(alloc),
+            made: HashMap::new(alloc),
             last_made: 0,
             numbers: Vec::new(alloc),
             numbered: SymbolTable::new(alloc),
             greatest: 0,
-            renamed: IndexMap::new(alloc),
+            renamed: HashMap::new(alloc),
             levels: Vec::new(alloc),
             shift_reduce: None,
             reduce_reduce: None,

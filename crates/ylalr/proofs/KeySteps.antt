@@ -1,13 +1,15 @@
--- Kernels as keys: what the index of a key says of the list of kernels.
-use Rattle.std.proofs.Common.{ℕ, zero, suc, Bool, true, false, ◌≡◌, ◌≢◌, ◌<◌, ◌||◌, ◌&&◌, nat_eq}
-use Rattle.std.proofs.Common.{List, [], ◌∷◌, ◌++◌, length, map, get_or, refl, sym, ◌∙◌, ap, subst}
-use Rattle.std.proofs.Common.{arith, Option, Some, None, if◌then◌else◌, Decides}
-use Rattle.std.specs.List.{list_any, position}
+-- Kernels as keys: what a map has of them, once one more is added.
+use Rattle.std.proofs.Common.{ℕ, suc, Bool, true, false, ◌≡◌, ◌<◌, ◌+◌, ◌&&◌, nat_eq, ◌⊎◌, inl, inr}
+use Rattle.std.proofs.Common.{List, [], ◌∷◌, ◌++◌, length, refl, sym, ◌∙◌, ap, subst}
+use Rattle.std.proofs.Common.{arith, Option, Some, None, Decides, MatchOption, IfSome, IfNone}
 use Rattle.std.proofs.lemmas.Bool.Decides.{nat_tests}
-use Rattle.std.proofs.lemmas.List.Quantifiers.{position-Some}
+use Rattle.std.proofs.lemmas.Slice.Eq.{slice_eq-Decides}
+use Rattle.std.specs.Global.{Vec}
+use Rattle.std.specs.HashMap.{HashMap, UpdatesBy, get_by}
+use Rattle.std.specs.Map.{KeepsOthers}
 use Rattle.ylalr.specs.declared.items.Item.{Item}
-use Rattle.std.specs.Option.{IfSome, IfNone, is_some}
-use Rattle.ylalr.specs.States.{StateLists, set_at, HasKernel, IsFresh}
+use Rattle.ylalr.specs.States.{AreNumbered, IsKernelAt, Lacks, kernels_of, same_items, set_at}
+use Rattle.ylalr.proofs.StateSteps.{push_old, push_new, push_length}
 
 same_item : (a b : Item) → (nat_eq a.rule b.rule && nat_eq a.dot b.dot) ≡ true → a ≡ b
 same_item a b h =
@@ -24,83 +26,97 @@ tests_same a b e =
 pub item_decides : (a b : Item) → Decides (nat_eq a.rule b.rule && nat_eq a.dot b.dot) (a ≡ b)
 item_decides a b = (same_item a b, tests_same a b)
 
-map_length : {K : Type 0} (of : K → List Item) (ks : List K) → length (map of ks) ≡ length ks
-map_length of [] = refl
-map_length of (k ∷ ks) = ap (λ n. suc n) (map_length of ks)
+items_decide : (xs ys : List Item) → Decides (same_items xs ys) (xs ≡ ys)
+items_decide xs ys = slice_eq-Decides item_decides xs ys (same_items xs ys) refl
 
-map_at : {K : Type 0} (of : K → List Item) (ks : List K) (n : ℕ) (d : K) → n < length ks →
-    set_at (map of ks) n ≡ of (get_or ks n d)
-map_at of [] n d h = absurd (omega arith)
-map_at of (k ∷ ks) zero d h = refl
-map_at of (k ∷ ks) (suc n) d h = map_at of ks n d (omega arith)
+pub kernels_length : (vs : List (Vec Item)) → length (kernels_of vs) ≡ length vs
+kernels_length [] = refl
+kernels_length (v ∷ vs) = ap (λ n. suc n) (kernels_length vs)
 
-pub map_push : {K : Type 0} (of : K → List Item) (ks : List K) (k : K) →
-    map of (ks ++ k ∷ []) ≡ map of ks ++ of k ∷ []
-map_push of [] k = refl
-map_push of (a ∷ ks) k = ap (λ xs. of a ∷ xs) (map_push of ks k)
+pub kernels_push : (vs : List (Vec Item)) (v : Vec Item) →
+    kernels_of (vs ++ v ∷ []) ≡ kernels_of vs ++ v.items ∷ []
+kernels_push [] v = refl
+kernels_push (x ∷ vs) v = ap (λ ks. x.items ∷ ks) (kernels_push vs v)
 
-pub found_at : {K : Type 0} (of : K → List Item) (test : K → Bool) (ks : List K) (x : List Item) →
-    ((j : K) → test j ≡ true → of j ≡ x) → (n : ℕ) → position test ks ≡ Some n →
-    (n < length (map of ks)) × (set_at (map of ks) n ≡ x)
-found_at of test [] x f n e = absurd (cc)
-found_at of test (a ∷ ks) x f n e =
-    let p = position-Some test (a ∷ ks) n a e in (
-      subst (λ t. n < t) (sym (map_length of (a ∷ ks))) p.0,
-      map_at of (a ∷ ks) n a p.0 ∙ f
-          (get_or (a ∷ ks) n a) p.1,
-    )
+-- whether two keys have the same items
+abbrev pub same_keys : Vec Item → Vec Item → Bool
+same_keys a b = same_items a.items b.items
 
-or_left : (a b : Bool) → (a || b) ≡ false → a ≡ false
-or_left true b e = e
-or_left false b e = refl
+equal_or : (xs ys : List Item) → (xs ≡ ys) ⊎ (same_items xs ys ≡ false)
+equal_or xs ys = go (same_items xs ys) refl
+  where
+    go : (b : Bool) → same_items xs ys ≡ b → (xs ≡ ys) ⊎ (same_items xs ys ≡ false)
+    go true e = inl ((items_decide xs ys).0 e)
+    go false e = inr e
 
-or_right : (a b : Bool) → (a || b) ≡ false → b ≡ false
-or_right true b e = absurd (cc)
-or_right false b e = e
+differs : (xs ys : List Item) → (xs ≡ ys → ⊥) → same_items xs ys ≡ false
+differs xs ys f = go (equal_or xs ys)
+  where
+    go : (xs ≡ ys) ⊎ (same_items xs ys ≡ false) → same_items xs ys ≡ false
+    go (inl e) = absurd (f e)
+    go (inr e) = e
 
-pub fresh_from : {K : Type 0} (of : K → List Item) (test : K → Bool) (ks : List K) (x : List Item) →
-    ((j : K) → of j ≡ x → test j ≡ true) → list_any test ks ≡ false →
-    (n : ℕ) → n < length (map of ks) → set_at (map of ks) n ≢ x
-fresh_from of test [] x f e n h q = omega arith
-fresh_from of test (a ∷ ks) x f e zero h q =
-    (let t = f a q in let u = or_left (test a) (list_any test ks) e in cc)
-fresh_from of test (a ∷ ks) x f e (suc n) h q = fresh_from of test ks x f
-    (or_right (test a) (list_any test ks) e) n (omega arith) q
+not_same : (xs ys : List Item) → same_items xs ys ≡ false → xs ≡ ys → ⊥
+not_same xs ys f e = (let t = (items_decide xs ys).1 e in cc)
 
-false_or : (b : Bool) → (b ≡ true → ⊥) → b ≡ false
-false_or true f = absurd (f refl)
-false_or false f = refl
+-- what a kernel finds, once another one is put in
+kept_number : {S : Type 0} (m w : HashMap (Vec Item) ℕ S) (k : Vec Item) (q : List Item) →
+    KeepsOthers same_keys (same_keys k) m.entries w.entries → (k.items ≡ q → ⊥) →
+    get_by (λ v. same_items q v.items) w ≡ get_by (λ v. same_items q v.items) m
+unfolding KeepsOthers
+kept_number m w k q keeps f = keeps (λ v. same_items q v.items)
+    (λ x y t. ap (λ (xs : List Item). same_items xs y.items) ((items_decide q x.items).0 t))
+    (λ x t. differs q x.items (λ e. f ((items_decide k.items x.items).0 t ∙ sym e)))
 
-join_false : (a b : Bool) → a ≡ false → b ≡ false → (a || b) ≡ false
-join_false true b e f = e
-join_false false b e f = f
+last_is : (ks : List (List Item)) (k : List Item) → IsKernelAt (ks ++ k ∷ []) k (length ks)
+last_is ks k = (
+  (let l = push_length ks k in omega arith),
+  push_new ks k [] (length ks) refl,
+)
 
-pub none_from_fresh : {K : Type 0} (of : K → List Item) (test : K → Bool) (ks : List K)
-    (x : List Item) → ((j : K) → test j ≡ true → of j ≡ x) →
-    ((n : ℕ) → n < length (map of ks) → set_at (map of ks) n ≢ x) → list_any test ks ≡ false
-none_from_fresh of test [] x f h = refl
-none_from_fresh of test (a ∷ ks) x f h = join_false (test a) (list_any test ks)
-    (false_or (test a) (λ t. h 0 (omega arith) (f a t)))
-    (none_from_fresh of test ks x f (λ n l. h (suc n) (omega arith)))
+grown_number : (ks : List (List Item)) (k q : List Item) (o : Option ℕ) → (k ≡ q → ⊥) →
+    MatchOption o (Lacks ks q) (IsKernelAt ks q) →
+    MatchOption o (Lacks (ks ++ k ∷ []) q) (IsKernelAt (ks ++ k ∷ []) q)
+grown_number ks k q (Some n) f h = (
+  (let l = push_length ks k in let m = h.0 in omega arith),
+  push_old ks k [] n h.0 ∙ h.1,
+)
+grown_number ks k q None f h = λ n l e. go n e (below_or_last n (length ks)
+    (subst (λ c. n < c) (push_length ks k) l))
+  where
+    below_or_last : (a b : ℕ) → a < b + 1 → (a < b) ⊎ (a ≡ b)
+    below_or_last a b h = grind (arith)
 
-pub some_found : {K : Type 0} (of : K → List Item) (ks : List K) (test : K → Bool) (o : Option ℕ) →
-    o ≡ position test ks → (x : List Item) → ((j : K) → test j ≡ true → of j ≡ x) →
-    (s : StateLists) → map of ks ≡ s.kernels → IfSome o (λ n. HasKernel s x n)
-some_found of ks test None e x f s q = tt
-some_found of ks test (Some n) e x f s q =
-    let z = found_at of test ks x f n (sym e) in (
-      subst (λ (l : List (List Item)). n < length l) q z.0,
-      subst (λ (l : List (List Item)). set_at l n ≡ x) q z.1,
-    )
+    go : (n : ℕ) → set_at (ks ++ k ∷ []) n ≡ q → (n < length ks) ⊎ (n ≡ length ks) → ⊥
+    go n e (inl l) = h n l (sym (push_old ks k [] n l) ∙ e)
+    go n e (inr l) = f (sym (push_new ks k [] n l) ∙ e)
 
-pub none_fresh : {K : Type 0} (of : K → List Item) (ks : List K) (test : K → Bool) (o : Option ℕ) →
-    is_some o ≡ list_any test ks → (x : List Item) → ((j : K) → of j ≡ x → test j ≡ true) →
-    (s : StateLists) → map of ks ≡ s.kernels → IfNone o (IsFresh s x)
-none_fresh of ks test None e x f s q = λ n. (let z = fresh_from of test ks x f (sym e) n in
-    subst (λ (l : List (List Item)). n < length l → set_at l n ≢ x) q z)
-none_fresh of ks test (Some n) e x f s q = tt
+-- what is found at a number, where one was found
+pub some_at : (o : Option ℕ) (A : Type 0) (P : ℕ → Type 0) → MatchOption o A P → IfSome o P
+some_at None A P h = tt
+some_at (Some n) A P h = h
 
-pub insert_fresh : {K : Type 0} (ks : List K) (k : K) (b : Bool) → b ≡ false →
-    (if b then ks else ks ++ k ∷ []) ≡ ks ++ k ∷ []
-insert_fresh ks k true e = absurd (cc)
-insert_fresh ks k false e = refl
+-- what holds where nothing was found
+pub none_there : (o : Option ℕ) (A : Type 0) (P : ℕ → Type 0) → MatchOption o A P → IfNone o A
+none_there None A P h = h
+none_there (Some n) A P h = tt
+
+-- a map that has the numbers of kernels, once the next one is put in
+pub numbered_more : {S : Type 0} (ks : List (List Item)) (m w : HashMap (Vec Item) ℕ S)
+    (v : Vec Item) (k : List Item) → v.items ≡ k → AreNumbered ks m →
+    UpdatesBy same_keys (same_keys v) m w (Some (length ks)) → AreNumbered (ks ++ k ∷ []) w
+numbered_more ks m w v k is h u q = go (equal_or k q)
+  where
+    Here : List Item → Type 0
+    Here p = MatchOption (get_by (λ x. same_items p x.items) w) (Lacks (ks ++ k ∷ []) p)
+        (IsKernelAt (ks ++ k ∷ []) p)
+
+    go : (k ≡ q) ⊎ (same_items k q ≡ false) → Here q
+    go (inl e) = subst Here e (subst (λ (o : Option ℕ). MatchOption o (Lacks (ks ++ k ∷ []) k)
+        (IsKernelAt (ks ++ k ∷ []) k)) (sym (subst (λ (p : List Item).
+        get_by (λ x. same_items p x.items) w ≡ Some (length ks)) is u.1)) (last_is ks k))
+    go (inr e) =
+        let apart : k ≡ q → ⊥ = not_same k q e in
+        subst (λ (o : Option ℕ). MatchOption o (Lacks (ks ++ k ∷ []) q)
+        (IsKernelAt (ks ++ k ∷ []) q)) (sym (kept_number m w v q u.3 (λ e. apart (sym is ∙ e))))
+        (grown_number ks k q (get_by (λ x. same_items q x.items) m) apart (h q))

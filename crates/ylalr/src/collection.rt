@@ -14,7 +14,7 @@ use crate::fault::BuildFault;
 use crate::first_rules::first_rules;
 use crate::gotos::{Goto, Gotos};
 use crate::items::Item;
-use crate::states::{Kernel, MOST_STATES, States};
+use crate::states::{MOST_STATES, States};
 use std::alloc::{AllocError, Global};
 use yrows::list::Sequence;
 use yrows::rows::Rows;
@@ -36,14 +36,14 @@ fn join(
     alloc: Global,
     grammar: &Grammar,
     finder: &mut Finder,
-    kernel: Kernel,
+    kernel: &[Item],
 ) -> Result<usize, BuildFault>
     requires fit { FitFinder grammar.now.bare finder.old }
-    requires kernel { MayJoin grammar.now.bare kernel.items }
-    requires fresh { IsFresh finder.old.states kernel.items }
+    requires kernel { MayJoin grammar.now.bare kernel.now }
+    requires fresh { IsFresh finder.old.states kernel.now }
     ensures fit { OnOk result (FitFinder grammar.now.bare finder.new) }
     ensures extends { OnOk result (Extends finder.old.states finder.new.states) }
-    ensures found { IfOk result (λ n. HasKernel finder.new.states kernel.items n) }
+    ensures found { IfOk result (λ n. HasKernel finder.new.states kernel.now n) }
     ensures fault { IfErr result (λ e. IsFault grammar.now.bare e) }
 {
     let items = closure(
@@ -51,13 +51,13 @@ fn join(
         grammar,
         &finder.first_rules,
         &mut finder.wanted,
-        kernel.as_slice(),
+        kernel,
     )?;
     let n = finder.states.count();
     if n >= MOST_STATES {
         return Err(BuildFault::TooManySets);
     }
-    finder.states.push(kernel, items)?;
+    finder.states.push(alloc, kernel, items)?;
     Ok(n)
 }
 
@@ -79,11 +79,10 @@ fn number(
     if kernel.is_empty() {
         return Ok(None);
     }
-    let key = Kernel::from_slice(alloc, kernel)?;
-    match finder.states.find(&key) {
+    match finder.states.find(kernel) {
         Some(n) => Ok(Some(n)),
         None => {
-            let n = join(alloc, grammar, finder, key)?;
+            let n = join(alloc, grammar, finder, kernel)?;
             Ok(Some(n))
         }
     }
@@ -140,10 +139,9 @@ fn first_state(
 {
     let _well_formed = grammar.symbols();
     let start = [Item { rule: 0, dot: 0 }];
-    let key = Kernel::from_slice(alloc, &start)?;
-    let items = closure(alloc, grammar, first_rules, wanted, key.as_slice())?;
-    let mut states = States::new(alloc)?;
-    states.push(key, items)?;
+    let items = closure(alloc, grammar, first_rules, wanted, &start)?;
+    let mut states = States::new(alloc);
+    states.push(alloc, &start, items)?;
     Ok(states)
 }
 

@@ -9,5 +9,5 @@ pub mod link;
 pub mod pieces;
 pub mod put;
 
-pub use buffered::Buffered;
+pub use buffered::{Buffer, Buffered};
 pub use link::Link;

@@ -1,12 +1,10 @@
 //! A link: a reader or a writer, and whether a call of it failed.
 
-ghost use Rattle.std.specs.Prelude.{◌≡◌, true, false, is_ok, is_some, if◌then◌else◌};
+ghost use Rattle.std.specs.Prelude.{◌≡◌, ◌||◌, true, false, is_ok, is_some, if◌then◌else◌};
 ghost use Rattle.std.specs.Io.{ReadsAtMost};
 ghost use Rattle.std.specs.Io.KnownBytes.{Keeps, ReadConsumes};
-ghost use Rattle.ylink.specs.Buffered.{Drains, buffer_of};
 ghost use Rattle.ylink.specs.Link.{device_of, has_failed, LinkReads, LinkWrites};
 
-use crate::buffered::Buffered;
 use std::io::{self, Read, Write};
 
 /// A reader or a writer, and whether a call of it failed since the flag was cleared.
@@ -45,6 +43,14 @@ impl<D> Link<D> {
     {
         let Link { device: _, failed } = self;
         *failed
+    }
+
+    /// Sets the flag where a call has failed elsewhere.
+    pub(crate) fn fail_where(&mut self, fails: bool)
+        ensures device { device_of self.new ≡ device_of self.old }
+        ensures failed { has_failed self.new ≡ (fails || has_failed self.old) }
+    {
+        self.failed = fails || self.failed;
     }
 
     /// Clears the flag: no call has failed from here on.
@@ -126,24 +132,6 @@ impl<W: Write> Link<W> {
                 self.failed = true;
                 false
             }
-        }
-    }
-}
-
-impl<W: Write + Drop> Link<Buffered<W>> {
-    /// The link to the device below: what the buffer holds is passed on, unless a call has failed
-    /// since the flag was cleared. The flag says whether one of these calls failed, or one before.
-    /// The device isn't flushed.
-    pub fn finish(self) -> Link<W>
-        ensures bytes { Drains W.contents (buffer_of (device_of self)) (device_of result)
-            (has_failed result) }
-        ensures failed { has_failed self ≡ true → has_failed result ≡ true }
-    {
-        let Link { device, failed } = self;
-        let (device, done) = device.finish();
-        Link {
-            device,
-            failed: failed || !done,
         }
     }
 }

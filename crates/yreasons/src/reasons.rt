@@ -51,9 +51,9 @@ impl<'a> Reasons<'a> {
     }
 
     /// Why the token `t` is a lookahead of the item in state `q`: a chain of reasons, from an item
-    /// that has the token of itself to this one; `None` where it is no lookahead. `q` is below the
-    /// number of states, the item is any, and `t` is any symbol of the grammar. It fails only when
-    /// memory runs out (Aho, Sethi, Ullman, section 4.7, LALR(1) lookaheads).
+    /// that has the token of itself to this one; `None` where it is no lookahead, and only there.
+    /// `q` is below the number of states, the item is any, and `t` is any symbol of the grammar. It
+    /// fails only when memory runs out (Aho, Sethi, Ullman, section 4.7, LALR(1) lookaheads).
     pub fn chain(
         &self,
         alloc: Global,
@@ -65,7 +65,8 @@ impl<'a> Reasons<'a> {
         requires symbol { t < (bare_of self.now).symbols }
         ensures { IfOk result (λ o. MatchOption o
             (Lookahead (bare_of self.now) (state_of self.now q) item t → ⊥)
-            (λ c. IsChain self.now t (record { state = q; item = item }) c.items)) }
+            (λ c. Lookahead (bare_of self.now) (state_of self.now q) item t
+            × IsChain self.now t (record { state = q; item = item }) c.items)) }
     {
         if !self.automaton.looks(q, item, t) {
             return Ok(None);

@@ -22,6 +22,7 @@ use yexplain::lines::Lines;
 use yexplain::reads::{Made, grammar_of};
 use yexplain::sources::{Source, sources_of};
 use yfaults::opening::Opened;
+use yfiles::steady::Steady;
 use ylists::kinds::{put_counts, put_named};
 use ylists::list_text::{ListText, put_unfound};
 use ylists::saving::{Folder, put_failed};
@@ -32,6 +33,9 @@ use yview::page::Page;
 
 /// The most kinds that are named after those with lists.
 const MOST_NAMED: usize = 1_000;
+
+/// What stands before and after the numbers in the names of the files of lists.
+pub const LIST_NAME: (&str, &str) = ("conflict-", "");
 
 /// What is asked for: the conflicts of a grammar file, where to keep the lists, and whether a
 /// conflict or a warning makes the status 1.
@@ -224,8 +228,7 @@ fn put_lists<'a, W: Write, F: Files + AllocGlobal + Clone + Drop>(
         folder: Folder {
             rt,
             path: asked.save,
-            inputs: (asked.grammar, None),
-            name: ("conflict-", ""),
+            name: LIST_NAME,
             failed: None,
         },
         splits: MOST_SPLITS,
@@ -292,7 +295,11 @@ pub fn put_conflicts<W: Write, E: Write, F: Files + AllocGlobal + Clone + Drop>(
 ) -> io::Result<u8> {
     let Opened { tables, lines } = opened;
     let mut session = empty_session(rt.alloc(), tables);
-    let mut page = Page::new(out, false);
+    // all lists are kept, or none, also where nobody reads the report any more
+    let mut out = Steady::new(out, asked.save.is_some());
+    let mut page = Page::new(&mut out, false);
     let found = Conflicts::new(rt.alloc(), session.tables())?;
-    put_both(rt, asked, &found, &mut page, errors, &mut session, &lines)
+    let status = put_both(rt, asked, &found, &mut page, errors, &mut session, &lines)?;
+    out.finish()?;
+    Ok(status)
 }

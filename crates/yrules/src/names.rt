@@ -19,8 +19,8 @@ impl Names {
     /// The name of a rule; empty for rule 0, which has none.
     pub fn name(&self, rule: usize) -> &[u8] {
         let place = rule.checked_sub(1);
-        match place.and_then(|place| self.names.get_index(place)) {
-            Some(name) => name.as_slice(),
+        match place.and_then(|place| self.names.get(place)) {
+            Some(name) => name,
             None => b"",
         }
     }

@@ -131,10 +131,10 @@ yyadd (char *yyto, size_t yyat, const char *yytext)
 
 /* The same of the tokens that could come: the first 20, and dots where there are more. */
 static size_t
-yyadd_expected (char *yyto, size_t yyat, const yystate_number *yyssp)
+yyadd_expected (char *yyto, size_t yyat, const yystate_number *yyssp, int yywrong)
 {
   int yytokens[YYNTOKENS];
-  int yycount = yyexpected (yyssp, yytokens, YYNTOKENS);
+  int yycount = yyexpected (yyssp, yywrong, yytokens, YYNTOKENS);
   int yyn;
   for (yyn = 0; yyn < yycount && yyn < 20; ++yyn)
     {
@@ -153,7 +153,7 @@ yyadd_piece (char *yyto, size_t yyat, const yypiece *yyp, const yystate_number *
   if (yyp->yytext)
     return yyadd (yyto, yyat, yyp->yytext);
   if (yyp->yyvalue < 0)
-    return yyadd_expected (yyto, yyat, yyssp);
+    return yyadd_expected (yyto, yyat, yyssp, yytoken);
   if (yyp->yyvalue == 0)
     return yyadd (yyto, yyat, yycalled[yytoken]);
   if (yyp->yyvalue > yyssp - yyss)

@@ -4,7 +4,7 @@
 use std::env;
 use std::io::{self, ErrorKind, Write};
 use std::process::ExitCode;
-use ylink::Buffered;
+use ylink::{Buffer, Buffered};
 use ystepper::programs::ystep_run;
 use ytables::Link;
 
@@ -17,7 +17,7 @@ fn status(rt: &HostRuntime) -> io::Result<u8> {
         words.push(word.as_str())?;
     }
     let mut reader = Link::new(rt.stdin());
-    let mut writer = Link::new(Buffered::new(alloc, rt.stdout())?);
+    let mut writer = Link::new(Buffered::over(Buffer::new(alloc)?, rt.stdout()));
     let mut errors = Link::new(rt.stderr());
     Ok(ystep_run(rt, &words, &mut reader, &mut writer, &mut errors))
 }

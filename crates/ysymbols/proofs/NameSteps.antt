@@ -1,17 +1,15 @@
--- Names in a set of texts.
-use Rattle.std.proofs.Common.{ℕ, suc, ◌⊎◌, inl, inr, Bool, true, false, ◌≡◌, ◌≤◌, ◌<◌, ◌+◌}
-use Rattle.std.proofs.Common.{subst, arith, ◌||◌, cond, List, [], ◌∷◌, ◌++◌, length, Option}
-use Rattle.std.proofs.Common.{Some, None, refl, sym, ◌∙◌, ap, nat_eq, nat_lt, unwrap_or}
-use Rattle.std.specs.List.{list_any, position, position_or_len}
+-- Names in a table.
+use Rattle.std.proofs.Common.{ℕ, suc, ◌⊎◌, inl, inr, Bool, true, false, ◌≡◌, ◌≤◌, ◌<◌}
+use Rattle.std.proofs.Common.{subst, arith, ◌||◌, cond, List, [], ◌∷◌, ◌++◌, length}
+use Rattle.std.proofs.Common.{Some, None, refl, sym, ◌∙◌, ap, is_some, nat_eq, nat_lt, unwrap_or}
 use Rattle.std.specs.Str.{bytes_eq}
-use Rattle.std.proofs.lemmas.Bool.Decides.{nat_tests}
-use Rattle.std.proofs.lemmas.List.Recursion.{is_position_or_len}
-use Rattle.std.specs.Cmp.Lexicographic.{pointwise, same_text, other_text}
+use Rattle.std.specs.Cmp.Lexicographic.{pointwise, nat_list_eq_equiv, same_text, other_text}
 use Rattle.std.proofs.lemmas.List.Folds.{list_any-append}
 use Rattle.std.specs.Global.{Vec}
-use Rattle.indexmap.specs.IndexSet.{insert_key}
+use Rattle.std.specs.HashMap.{HashMap, UpdatesBy, get_by}
+use Rattle.std.specs.Map.{KeepsOthers}
 use Rattle.ysymbols.specs.Names.{Name, find_in, is_among, with_name, with_names, number_in}
-use Rattle.ysymbols.specs.NameTexts.{texts_of}
+use Rattle.ysymbols.specs.NameTexts.{texts_of, IsNumbered}
 
 pub false_true : false ≡ true → ⊥
 false_true h = grind (arith)
@@ -24,24 +22,6 @@ pub or_right : (a b : Bool) → b ≡ true → (a || b) ≡ true
 or_right true b h = refl
 or_right false b h = h
 
-pub any_texts : (q : Name) (vs : List (Vec ℕ)) → list_any (λ k. pointwise nat_eq q k.items) vs ≡
-    is_among (texts_of vs) q
-any_texts q [] = refl
-any_texts q (v ∷ vs) = ap (λ b. bytes_eq q v.items || b) (any_texts q vs)
-
-texts_push : (vs : List (Vec ℕ)) (v : Vec ℕ) → texts_of (vs ++ v ∷ []) ≡ texts_of vs ++ v.items ∷ []
-texts_push [] v = refl
-texts_push (x ∷ vs) v = ap (λ ts. x.items ∷ ts) (texts_push vs v)
-
-position_texts : (q : Name) (vs : List (Vec ℕ)) → number_in (texts_of vs) q ≡ position_or_len
-    (λ k. pointwise nat_eq q k.items) vs
-position_texts q vs = is_position_or_len (λ (ws : List (Vec ℕ)). number_in (texts_of ws) q)
-    (λ k. pointwise nat_eq q k.items) refl
-    (λ x xs. one (bytes_eq q x.items) (number_in (texts_of xs) q)) vs
-  where
-    one : (b : Bool) (n : ℕ) → cond b 0 (suc n) ≡ cond b 0 (1 + n)
-    one b n = grind (arith)
-
 pub number_le : (q : Name) (ns : List Name) → number_in ns q ≤ length ns
 number_le q [] = omega arith
 number_le q (n ∷ ns) = one (bytes_eq q n) (number_in ns q) (length ns) (number_le q ns)
@@ -49,39 +29,6 @@ number_le q (n ∷ ns) = one (bytes_eq q n) (number_in ns q) (length ns) (number
     one : (b : Bool) (k m : ℕ) → k ≤ m → cond b 0 (suc k) ≤ suc m
     one true k m h = omega arith
     one false k m h = omega arith
-
-pub length_texts : (vs : List (Vec ℕ)) → length (texts_of vs) ≡ length vs
-length_texts [] = refl
-length_texts (v ∷ vs) = ap (λ n. suc n) (length_texts vs)
-
--- the place found, or how many there are
-pub found_or_len : (q : Name) (vs : List (Vec ℕ)) (o : Option ℕ) (m r : ℕ) →
-    o ≡ position (λ k. pointwise nat_eq q k.items) vs → m ≡ length vs → r ≡ unwrap_or o m →
-    r ≡ number_in (texts_of vs) q
-found_or_len q vs o m r e f h =
-    let p = position_or_len (λ k. pointwise nat_eq q k.items) vs in
-    let le : p ≤ length vs = subst (λ n. n ≤ length vs) (position_texts q vs)
-    (subst (λ n. number_in (texts_of vs) q ≤ n) (length_texts vs)
-    (number_le q (texts_of vs))) in
-    h ∙ ap (λ (x : Option ℕ). unwrap_or x m) e ∙ ap
-    (λ n. unwrap_or (cond (nat_lt p (length vs)) (Some p) None) n) f ∙ one p (length vs) le ∙
-    sym (position_texts q vs)
-  where
-    one : (p n : ℕ) → p ≤ n → unwrap_or (cond (nat_lt p n) (Some p) None) n ≡ p
-    one p n h = grind (arith, nat_tests)
-
--- a name that is not there is put at the end
-pub noted_texts : (vs ws : List (Vec ℕ)) (v : Vec ℕ) (q : Name) → v.items ≡ q →
-    is_among (texts_of vs) q ≡ false → ws ≡ insert_key (λ a b. pointwise nat_eq a.items b.items) vs
-    v → texts_of ws ≡ with_name (texts_of vs) q
-noted_texts vs ws v q e f h =
-    let t : list_any (λ k. pointwise nat_eq v.items k.items) vs ≡ false = any_texts v.items vs ∙ ap
-    (is_among (texts_of vs)) e ∙ f in
-    ap texts_of h
-    ∙ ap (λ b. texts_of (cond b vs (vs ++ v ∷ []))) t
-    ∙ texts_push vs v
-    ∙ ap (λ (n : Name). texts_of vs ++ n ∷ []) e
-    ∙ sym (ap (λ b. cond b (texts_of vs) (texts_of vs ++ q ∷ [])) f)
 
 pub already : (ns : List Name) (q : Name) → is_among ns q ≡ true → with_name ns q ≡ ns
 already ns q f = ap (λ b. cond b ns (ns ++ q ∷ [])) f
@@ -168,23 +115,123 @@ number_among (m ∷ ns) n h = go (bytes_eq n m) refl (number_among ns n) h
         (again (let r : suc (number_in ns n) < suc (length ns) =
         subst (λ c. cond c 0 (suc (number_in ns n)) < suc (length ns)) q k in omega arith))
 
-abbrev pub some_number : ℕ → Option ℕ
-some_number n = Some n
-
--- a name is found by its number
-pub found_number : (ns : List Name) (n : Name) (r k : ℕ) → r ≡ number_in ns n → k ≡ length ns →
-    r < k → some_number r ≡ find_in ns n
-found_number ns n r k e f h = ap some_number e ∙ sym
-    (ap (λ b. cond b (some_number (number_in ns n)) None)
-    (number_among ns n (subst (λ a. a < length ns) e (subst (λ a. r < a) f h))))
-
-pub missed_number : (ns : List Name) (n : Name) (r k : ℕ) → r ≡ number_in ns n → k ≡ length ns →
-    k ≤ r → None ≡ find_in ns n
-missed_number ns n r k e f h = sym (ap (λ b. cond b (some_number (number_in ns n)) None)
-    (absent (is_among ns n) refl))
+-- where a name is not there, its number is how many there are
+absent_number : (ns : List Name) (n : Name) → is_among ns n ≡ false → number_in ns n ≡ length ns
+absent_number ns n f = at_most (number_in ns n) (length ns) (number_le n ns)
+    (λ l. false_true (sym f ∙ number_among ns n l))
   where
-    absent : (b : Bool) → is_among ns n ≡ b → is_among ns n ≡ false
-    absent true q = let l : number_in ns n < length ns = among_number ns n q in
-        let m : length ns ≤ number_in ns n = subst (λ a. length ns ≤ a) e
-        (subst (λ a. a ≤ r) f h) in absurd (omega arith)
-    absent false q = q
+    at_most : (a b : ℕ) → a ≤ b → (a < b → ⊥) → a ≡ b
+    at_most a b h k = go (nat_lt a b) refl
+      where
+        go : (r : Bool) → nat_lt a b ≡ r → a ≡ b
+        go true e = absurd (k (grind (arith, e)))
+        go false e = grind (arith, e, h)
+
+-- whether a name is found
+pub found_among : (ns : List Name) (n : Name) → is_some (find_in ns n) ≡ is_among ns n
+found_among ns n = go (is_among ns n)
+  where
+    go : (b : Bool) → is_some (cond b (Some (number_in ns n)) None) ≡ b
+    go true = refl
+    go false = refl
+
+-- the number of a name that is found, or how many there are
+pub found_number : (ns : List Name) (n : Name) → unwrap_or (find_in ns n) (length ns) ≡ number_in ns n
+found_number ns n = go (is_among ns n) refl
+  where
+    go : (b : Bool) → is_among ns n ≡ b →
+        unwrap_or (cond (is_among ns n) (Some (number_in ns n)) None) (length ns) ≡ number_in ns n
+    go true e = rw e refl
+    go false e = rw e (sym (absent_number ns n e))
+
+last_number : (ns : List Name) (n : Name) → is_among ns n ≡ false →
+    number_in (ns ++ n ∷ []) n ≡ length ns
+last_number [] n f = rw (eq_self n) refl
+last_number (m ∷ ns) n f = go (bytes_eq n m) refl f (last_number ns n)
+  where
+    go : (b : Bool) → bytes_eq n m ≡ b → (bytes_eq n m || is_among ns n) ≡ false →
+        (is_among ns n ≡ false → number_in (ns ++ n ∷ []) n ≡ length ns) →
+        cond (bytes_eq n m) 0 (suc (number_in (ns ++ n ∷ []) n)) ≡ suc (length ns)
+    go true e g again = absurd (false_true (sym g ∙ or_left (bytes_eq n m) (is_among ns n) e))
+    go false e g again = rw e (ap (λ k. suc k)
+        (again (subst (λ b. (b || is_among ns n) ≡ false) e g)))
+
+earlier_number : (ns : List Name) (n q : Name) → is_among ns q ≡ true →
+    number_in (ns ++ n ∷ []) q ≡ number_in ns q
+earlier_number [] n q t = absurd (false_true t)
+earlier_number (m ∷ ns) n q t = go (bytes_eq q m) refl t (earlier_number ns n q)
+  where
+    go : (b : Bool) → bytes_eq q m ≡ b → (bytes_eq q m || is_among ns q) ≡ true →
+        (is_among ns q ≡ true → number_in (ns ++ n ∷ []) q ≡ number_in ns q) →
+        cond (bytes_eq q m) 0 (suc (number_in (ns ++ n ∷ []) q)) ≡
+        cond (bytes_eq q m) 0 (suc (number_in ns q))
+    go true e g again = rw e refl
+    go false e g again = rw e (ap (λ k. suc k)
+        (again (subst (λ b. (b || is_among ns q) ≡ true) e g)))
+
+among_last : (ns : List Name) (n q : Name) →
+    is_among (ns ++ n ∷ []) q ≡ (is_among ns q || (bytes_eq q n || false))
+among_last ns n q = list_any-append (bytes_eq q) ns (n ∷ [])
+
+-- the last of the names, where it was not among the others
+last_found : (ns : List Name) (n : Name) → is_among ns n ≡ false →
+    find_in (ns ++ n ∷ []) n ≡ Some (length ns)
+last_found ns n f =
+    let here : is_among (ns ++ n ∷ []) n ≡ true = among_last ns n n ∙ or_right (is_among ns n)
+    (bytes_eq n n || false) (or_left (bytes_eq n n) false (eq_self n)) in
+    ap (λ b. cond b (Some (number_in (ns ++ n ∷ []) n)) None) here
+    ∙ ap (λ k. Some k) (last_number ns n f)
+
+-- another name is found as before
+other_found : (ns : List Name) (n q : Name) → bytes_eq q n ≡ false →
+    find_in (ns ++ n ∷ []) q ≡ find_in ns q
+other_found ns n q f =
+    let same : is_among (ns ++ n ∷ []) q ≡ is_among ns q = among_last ns n q
+    ∙ ap (λ b. is_among ns q || (b || false)) f ∙ or_nothing (is_among ns q) in
+    ap (λ b. cond b (Some (number_in (ns ++ n ∷ []) q)) None) same ∙ go (is_among ns q) refl
+  where
+    or_nothing : (b : Bool) → (b || false) ≡ b
+    or_nothing true = refl
+    or_nothing false = refl
+
+    go : (b : Bool) → is_among ns q ≡ b →
+        cond (is_among ns q) (Some (number_in (ns ++ n ∷ []) q)) None ≡
+        cond (is_among ns q) (Some (number_in ns q)) None
+    go true e = ap (λ k. cond (is_among ns q) (Some k) None) (earlier_number ns n q e)
+    go false e = rw e refl
+
+abbrev pub texts_equal : Vec ℕ → Vec ℕ → Bool
+texts_equal a b = pointwise nat_eq a.items b.items
+
+-- what a key that tells others apart finds, once one of those is put in
+kept_lookup : {S : Type 0} (m w : HashMap (Vec ℕ) ℕ S) (k : Vec ℕ) (q : Name) →
+    KeepsOthers texts_equal (texts_equal k) m.entries w.entries → bytes_eq k.items q ≡ false →
+    get_by (λ x. bytes_eq q x.items) w ≡ get_by (λ x. bytes_eq q x.items) m
+unfolding KeepsOthers
+kept_lookup m w k q keeps f = keeps (λ x. bytes_eq q x.items)
+    (λ x y t. nat_list_eq_equiv.congr q x.items y.items t)
+    (λ x t. nat_list_eq_equiv.symm q x.items ∙ sym (nat_list_eq_equiv.congr k.items x.items q t) ∙ f)
+
+-- a map that has the numbers of names, once the next one is put in
+pub numbered_more : {S : Type 0} (ns : List Name) (m w : HashMap (Vec ℕ) ℕ S) (k : Vec ℕ) (n : Name) →
+    k.items ≡ n → IsNumbered ns m → is_among ns n ≡ false →
+    UpdatesBy texts_equal (texts_equal k) m w (Some (length ns)) → IsNumbered (ns ++ n ∷ []) w
+numbered_more ns m w k n is h f u q = go (same_or q n)
+  where
+    go : (q ≡ n) ⊎ (bytes_eq q n ≡ false) →
+        get_by (λ x. bytes_eq q x.items) w ≡ find_in (ns ++ n ∷ []) q
+    go (inl e) = subst (λ (p : Name). get_by (λ x. bytes_eq p x.items) w ≡ find_in (ns ++ n ∷ []) p)
+        (sym e) (subst (λ (p : Name). get_by (λ x. bytes_eq p x.items) w ≡ Some (length ns)) is u.1
+        ∙ sym (last_found ns n f))
+    go (inr e) = kept_lookup m w k q u.3
+        (nat_list_eq_equiv.symm k.items q ∙ ap (bytes_eq q) is ∙ e)
+        ∙ h q ∙ sym (other_found ns n q e)
+
+pub length_texts : (vs : List (Vec ℕ)) → length (texts_of vs) ≡ length vs
+length_texts [] = refl
+length_texts (v ∷ vs) = ap (λ n. suc n) (length_texts vs)
+
+-- the texts with one more
+pub texts_push : (vs : List (Vec ℕ)) (v : Vec ℕ) → texts_of (vs ++ v ∷ []) ≡ texts_of vs ++ v.items ∷ []
+texts_push [] v = refl
+texts_push (x ∷ vs) v = ap (λ ts. x.items ∷ ts) (texts_push vs v)

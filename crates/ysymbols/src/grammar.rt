@@ -10,7 +10,7 @@ ghost use Rattle.ysymbols.specs.Sources.{text_view};
 ghost use Rattle.ysymbols.specs.WellFormed.{IsWhole, WellFormed};
 
 use crate::let_go;
-use crate::names::{Printed, SymbolTable, number_in};
+use crate::names::{Printed, SymbolTable};
 use crate::precedence::Precedence;
 use crate::productive::productive;
 use crate::rule::{Rule, Sym};
@@ -114,8 +114,8 @@ impl Grammar {
         requires { s < self.now.bare.symbols }
         ensures { result.now ≡ slice_index_or self.now.names s [] }
     {
-        match self.names.get_index(s) {
-            Some(name) => name.as_slice(),
+        match self.names.get(s) {
+            Some(name) => name,
             None => b"",
         }
     }
@@ -124,8 +124,7 @@ impl Grammar {
     pub fn find(&self, name: &[u8]) -> Option<Sym>
         ensures { result ≡ find_in self.now.names name.now }
     {
-        let s = number_in(&self.names, name);
-        if s < self.names.len() { Some(s) } else { None }
+        self.names.find(name)
     }
 
     /// The token that is the literal of this value, or `None` where the grammar lacks it.

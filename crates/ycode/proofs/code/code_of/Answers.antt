@@ -96,5 +96,5 @@ returns c =
           i h1 tg.usual.items tg.rows.items c2 t h2 symbols lengths lefts numbers hs
           c.in_ok-symbols_of.ensures.len c.in_ok-symbols_of.ensures.symbols z.states z.rules
           z.tokens
-          a.states a.rules a.tokens w ll fl le fe v1 v2 ns;
+          a.states a.rules a.tokens w ll fl le fe v1 v2 ns c.in_ok-translation_of.ensures.few;
     }

@@ -1,4 +1,4 @@
-use Rattle.std.proofs.Common.{ℕ, ◌≡◌, ◌<◌, Some, slice_get, length}
+use Rattle.std.proofs.Common.{ℕ, ◌≡◌, ◌<◌, ◌≤◌, ◌^◌, Some, slice_get, length}
 use Rattle.ycode.specs.Combs.{AreAtMost}
 use Rattle.ycode.specs.Translation.{TranslatesTo}
 use Rattle.ycode.proofs.translate.translation_of.Given as goal
@@ -9,4 +9,5 @@ invariant-loop-s l = record {
       n < length l.symbols.items;
   translates : TranslatesTo l.s l.grammar.numbers l.tokens l.symbols.items;
   most : AreAtMost l.tokens l.symbols.items;
+  few : length l.symbols.items ≤ 2 ^ 32;
 }

@@ -2,7 +2,6 @@ use Rattle.std.proofs.Common.{sym, subst, map, drop, get_or, ◌+◌, ◌≤◌,
 use Rattle.std.proofs.Common.{length, take, arith}
 use Rattle.std.proofs.lemmas.List.{take_all, length-map}
 use Rattle.ydeclarations.specs.declared.given.GivenNumbers.{GivenNumbers}
-use Rattle.ysymbols.specs.NameTexts.{texts}
 use Rattle.ydeclarations.specs.Elaboration.{Listing}
 use Rattle.ydeclarations.specs.Outline.{listed_view}
 use Rattle.ydeclarations.specs.Owned.{AllSmall, HasFirst, IsFirstWrong, TellsNumbers}
@@ -13,13 +12,13 @@ use Rattle.ydeclarations.proofs.given.given_numbers.Goals as goal
 
 -- the numbers of the listings behind the loop's
 abbrev more : (c : Joined-listed-i) → List (Option ℕ) → Option ℕ → Type 0
-more c table fault = TellsNumbers (texts c.args.tokens.now)
+more c table fault = TellsNumbers c.args.tokens.now
     (map listed_view (drop (c.loop-i.i + 1) c.args.listed.now)) (map listed_view c.args.listed.now)
     table fault
 
 -- the table has the first numbers of the listings up to the loop's
 abbrev first : (c : Joined-listed-i) → List (Option ℕ) → Type 0
-first c table = HasFirst (texts c.args.tokens.now) table
+first c table = HasFirst c.args.tokens.now table
     (take (c.loop-i.i + 1) (map listed_view c.args.listed.now))
 
 -- the first wrong number of them
@@ -41,7 +40,7 @@ loop-i-preserved c = elim c.match-listed-i.branch [
         first = subst (λ (g : GivenNumbers). first c g.first.items) (sym w.given-is)
             (first_none_at _ _ _ xs i l none c.loop-i.invariant.first);
         fault = λ among. subst (λ (g : GivenNumbers). wrong c g.fault) (sym w.given-is)
-            (wrong_none_at _ (texts c.args.tokens.now) c.loop-i.given.first.items xs i l _ none
+            (wrong_none_at _ c.args.tokens.now c.loop-i.given.first.items xs i l _ none
             (c.loop-i.invariant.fault among));
       }
   | in-Some w ↦
@@ -68,7 +67,7 @@ loop-i-preserved c = elim c.match-listed-i.branch [
 ]
 
 pub returns-clause-first : goal.returns-clause-first
-returns-clause-first c = subst (λ (ys : List Listing). HasFirst (texts c.args.tokens.now)
+returns-clause-first c = subst (λ (ys : List Listing). HasFirst c.args.tokens.now
     c.loop-i.given.first.items ys) (take_all c.loop-i.i (map listed_view c.args.listed.now)
     (subst (λ n. n ≤ c.loop-i.i) (sym (length-map c.args.listed.now listed_view))
     (omega arith))) c.loop-i.invariant.first

@@ -1,6 +1,5 @@
 use Rattle.std.proofs.Common.{◌++◌, [], subst, sym, map, List, append-nil}
 use Rattle.ydeclarations.specs.Elaboration.{literal_value}
-use Rattle.ysymbols.specs.NameTexts.{texts}
 use Rattle.ydeclarations.specs.Owned.{OwnSoFar}
 use Rattle.ysyntax.specs.Tree.{Identifier}
 use Rattle.ysyntax.specs.TreeViews.{occurrence_view}
@@ -9,7 +8,7 @@ use Rattle.ydeclarations.proofs.given.own_numbers.Goals as goal
 
 pub returns-clause-told : goal.returns-clause-told
 returns-clause-told c = λ own s.
-    let ns = texts c.args.tokens.now in
+    let ns = c.args.tokens.now in
     let d : List Identifier = map occurrence_view c.args.declared.now in
     let u : List Identifier = map occurrence_view c.args.used.now in
     let one = fills_first ns c.args.given.items c.fill.new.table.items c.fill-2.new.table.items

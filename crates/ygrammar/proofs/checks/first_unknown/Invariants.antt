@@ -1,10 +1,9 @@
 use Rattle.std.proofs.Common.{◌≡◌, drop, not}
 use Rattle.std.specs.List.{find}
-use Rattle.ysymbols.specs.NameTexts.{texts}
 use Rattle.ysymbols.specs.Names.{is_among}
 use Rattle.ysyntax.specs.TreeViews.{name_view}
 use Rattle.ygrammar.proofs.checks.first_unknown.Given as goal
 
 abbrev pub invariant-loop-name : goal.invariant-loop-name
-invariant-loop-name l = find (λ n. not (is_among (texts l.symbols) (name_view n)))
-    (drop l.name-index l.names) ≡ find (λ n. not (is_among (texts l.symbols) (name_view n))) l.names
+invariant-loop-name l = find (λ n. not (is_among l.symbols (name_view n)))
+    (drop l.name-index l.names) ≡ find (λ n. not (is_among l.symbols (name_view n))) l.names

@@ -3,7 +3,6 @@ use Rattle.ydeclarations.specs.declared.mistake.Mistake.TheVariants as mistakes
 use Rattle.ygrammar.specs.Elaborated.{AreNumbered, Decides}
 use Rattle.ydeclarations.specs.Elaboration.{tokens}
 use Rattle.ydeclarations.specs.Mistakes.{Holds}
-use Rattle.ysymbols.specs.NameTexts.{texts}
 use Rattle.ysyntax.specs.TreeViews.{tree_view}
 use Rattle.std.proofs.Common.{◌++◌}
 use Rattle.ydeclarations.specs.OutlineSites.{IsPlaced}
@@ -29,7 +28,7 @@ pub refuse_rules-requires-clause-within : goal.refuse_rules-requires-clause-with
 refuse_rules-requires-clause-within c =
     let t = tree_view c.args.tree.now in
     let n = c.requires.named in
-    subst (λ k. k ≤ length (texts c.args.named.now.names)) (sym n.tokens_first)
+    subst (λ k. k ≤ length c.args.named.now.names) (sym n.tokens_first)
     (subst (λ (ns : List (List ℕ)). length (tokens t) ≤ length ns) (sym n.names) (tokens_within t))
 
 pub refuse_rules-requires-clause-in_range : goal.refuse_rules-requires-clause-in_range

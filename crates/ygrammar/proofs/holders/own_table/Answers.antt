@@ -8,7 +8,6 @@ use Rattle.ydeclarations.specs.declared.outline.Listed.{Listed}
 use Rattle.ysyntax.specs.declared.tree.Occurrence.{Occurrence}
 use Rattle.ydeclarations.specs.Elaboration.{digits_number, listings, own_numbers, tokens}
 use Rattle.ysymbols.specs.Grammar.{number_bound}
-use Rattle.ysymbols.specs.NameTexts.{texts}
 use Rattle.ydeclarations.specs.Mistakes.{Clashes}
 use Rattle.ygrammar.specs.Numbers.{AreHolders, IsOwn}
 use Rattle.ydeclarations.specs.Outline.{Outlines, listed_view}
@@ -24,7 +23,7 @@ use Rattle.ygrammar.proofs.holders.own_table.Goals as goal
 
 -- what was given
 given : (c : In_ok-holders) (t : Tree) → Outlines c.args.outline.now t
-    → texts c.args.tokens.now ≡ tokens t
+    → c.args.tokens.now ≡ tokens t
     → TellsNumbers (tokens t) [] (listings t) c.in_ok-given.given.first.items
     c.in_ok-given.given.fault
 given c t o e = told_here t _ _ _ _ e
@@ -33,7 +32,7 @@ given c t o e = told_here t _ _ _ _ e
 
 -- what was given, each token one in range or none, and the numbers from it
 owned : (c : In_ok-holders) (t : Tree) → Outlines c.args.outline.now t
-    → texts c.args.tokens.now ≡ tokens t → is_some c.in_ok-given.given.fault ≡ false
+    → c.args.tokens.now ≡ tokens t → is_some c.in_ok-given.given.fault ≡ false
     → (IsTold digits_number (tokens t) (listings t) c.in_ok-given.given.first.items
     × AllFit c.in_ok-given.given.first.items)
     × (c.own_numbers-numbers.result.items ≡ own_numbers t)
@@ -89,7 +88,7 @@ returns-clause-told c = λ t o e. (
 pub returns-clause-place : goal.returns-clause-place
 returns-clause-place c = λ t ds rs o sites e.
     let xs = c.args.outline.now.listed.items in
-    let ns = texts c.args.tokens.now in
+    let ns = c.args.tokens.now in
     let seen : List Occurrence → List Identifier = map occurrence_view in
     bad_placed t xs c.own_numbers-numbers.result.items c.in_ok-given.given.fault
     c.hold_given.new.holders.items o.listed

@@ -1,6 +1,5 @@
 use Rattle.std.proofs.Common.{ap, sym, ◌∙◌, map, length, refl, List}
 use Rattle.ydeclarations.specs.declared.outline.Started.{Started}
-use Rattle.ysymbols.specs.NameTexts.{texts}
 use Rattle.ydeclarations.specs.Outline.{start_view}
 use Rattle.ygrammar.proofs.MistakeSteps.{no_start, start_found}
 use Rattle.std.proofs.Common.{◌≡◌, Some, None, subst}
@@ -14,14 +13,14 @@ use Rattle.std.proofs.lemmas.List.{length-map}
 pub returns-in-Some-clause-clears : goal.returns-in-Some-clause-clears
 returns-in-Some-clause-clears c = λ t o e f. (
   refl,
-  start_found t (texts c.args.symbols.now) c.args.tokens (length c.deref.result.now)
+  start_found t c.args.symbols.now c.args.tokens (length c.deref.result.now)
       (map start_view c.deref.result.now) c.bad_start.result c.in-Some.at e f
       (ap (λ (xs : List Started). map start_view xs) c.deref.ensures.value ∙ o.starts)
       (sym (length-map c.deref.result.now start_view)) c.bad_start.ensures.found c.in-Some.is,
 )
 
 pub returns-in-None-clause-clears : goal.returns-in-None-clause-clears
-returns-in-None-clause-clears c = λ t o e f. no_start t (texts c.args.symbols.now) c.args.tokens
+returns-in-None-clause-clears c = λ t o e f. no_start t c.args.symbols.now c.args.tokens
     (length c.deref.result.now) (map start_view c.deref.result.now) c.bad_start.result e f
     (ap (λ (xs : List Started). map start_view xs) c.deref.ensures.value ∙ o.starts)
     (sym (length-map c.deref.result.now start_view)) c.bad_start.ensures.found c.in-None.is

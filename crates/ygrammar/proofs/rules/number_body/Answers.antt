@@ -1,6 +1,5 @@
 use Rattle.std.proofs.Common.{List, ℕ, arith}
 use Rattle.ysyntax.specs.declared.tree.BodyPart.{BodyPart}
-use Rattle.ysymbols.specs.NameTexts.{texts}
 use Rattle.ysymbols.specs.Names.{number_in}
 use Rattle.ygrammar.specs.Numbered.{inner_numbers}
 use Rattle.ygrammar.proofs.InnerSteps.{inner_all, inner_pushed, next_pushed, part_room}
@@ -11,7 +10,7 @@ pub loop-item-preserved : goal.loop-item-preserved
 loop-item-preserved c =
     let cs : List BodyPart = c.args.items.now in
     let i = c.loop-item.item-index in
-    let ns : List (List ℕ) = texts c.args.names.now in
+    let ns : List (List ℕ) = c.args.names.now in
     let added = c.in_ok-push.ensures in
     record {
       rules = inner_pushed (inner_numbers ns) cs i _ _ _ _ _ _ c.loop-item-test.true added.next
@@ -27,9 +26,9 @@ push-requires c = part_room c.args.items.now c.loop-item.item-index _ _ _ _ c.lo
     c.loop-item.invariant.next c.requires
 
 pub returns-clause-rules : goal.returns-clause-rules
-returns-clause-rules c = inner_all (inner_numbers (texts c.args.names.now)) c.args.items.now
+returns-clause-rules c = inner_all (inner_numbers c.args.names.now) c.args.items.now
     c.loop-item.item-index _ _ _ (omega arith) c.loop-item.invariant.rules
 
 pub returns-clause-symbols : goal.returns-clause-symbols
-returns-clause-symbols c = symbols_all (number_in (texts c.args.names.now)) c.args.items.now
+returns-clause-symbols c = symbols_all (number_in c.args.names.now) c.args.items.now
     c.loop-item.item-index _ _ _ (omega arith) c.loop-item.invariant.symbols

@@ -2,7 +2,6 @@ use Rattle.std.proofs.Common.{[], ◌≡◌, ◌<◌, ◌∙◌, subst, ap, drop
 use Rattle.std.proofs.Common.{length, arith}
 use Rattle.ysyntax.specs.declared.tree.RuleText.{RuleText}
 use Rattle.ydeclarations.specs.Elaboration.{precedence_at, rules_from}
-use Rattle.ysymbols.specs.NameTexts.{texts}
 use Rattle.ygrammar.specs.Numbered.{chosen_token, rule_numbers}
 use Rattle.ysymbols.specs.Grammar.{RuleValue}
 use Rattle.ysyntax.specs.TreeViews.{rule_text_view, occurrence_view}
@@ -16,7 +15,7 @@ loop-rule_text-preserved c =
     let i = c.loop-rule_text.rule_text-index in
     let cs : List RuleText = c.args.rule_texts.now in
     let x : RuleText = c.rule_text-item.result in
-    let ns : List (List ℕ) = texts c.args.names.now in
+    let ns : List (List ℕ) = c.args.names.now in
     let given = c.args.given.now in
     let h : i < length cs = omega arith in
     let whole : List RuleValue = c.args.rules.now.items ++ map (rule_numbers ns given)

@@ -1,5 +1,4 @@
 use Rattle.std.proofs.Common.{◌≡◌, map, drop}
-use Rattle.ysymbols.specs.NameTexts.{texts}
 use Rattle.ysyntax.specs.TreeViews.{occurrence_view}
 use Rattle.std.specs.Prelude.{filter}
 use Rattle.ysymbols.specs.Names.{is_among, with_names}
@@ -7,7 +6,7 @@ use Rattle.ydeclarations.specs.Printed.{printed_name}
 use Rattle.ygrammar.proofs.tokens.intern_those.Given as goal
 
 abbrev pub invariant-loop-occurrence : goal.invariant-loop-occurrence
-invariant-loop-occurrence l = with_names (texts l.tokens) (filter (is_among (texts l.names))
+invariant-loop-occurrence l = with_names l.tokens (filter (is_among l.names)
     (map printed_name (map occurrence_view (drop l.occurrence-index l.occurrences)))) ≡ with_names
-    (texts l.fn.tokens) (filter (is_among (texts l.names))
+    l.fn.tokens (filter (is_among l.names)
     (map printed_name (map occurrence_view l.occurrences)))

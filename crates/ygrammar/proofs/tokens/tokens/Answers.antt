@@ -1,7 +1,6 @@
 use Rattle.std.proofs.Common.{◌++◌, [], ◌∷◌, List, map, codes}
 use Rattle.std.proofs.lemmas.Result.{IfOk-weaker}
 use Rattle.ydeclarations.specs.Elaboration.{token_names_of}
-use Rattle.ysymbols.specs.NameTexts.{texts}
 use Rattle.ydeclarations.specs.Outline.{listed_view}
 use Rattle.ysyntax.specs.Tree.{Identifier}
 use Rattle.ysyntax.specs.TreeViews.{occurrence_view}
@@ -14,5 +13,5 @@ returns c =
     ++ map occurrence_view c.args.outline.now.used.items in
     IfOk-weaker c.tokens_among-tokens.result _ _ (λ v among. tokens_noted
     (token_names_of (map listed_view c.args.outline.now.listed.items) ids)
-    (codes "$end" ∷ codes "error" ∷ []) (texts c.in_ok-names.names) (texts v) ids
+    (codes "$end" ∷ codes "error" ∷ []) c.in_ok-names.names v ids
     c.in_ok-names.ensures among) c.tokens_among-tokens.ensures

@@ -1,6 +1,8 @@
-use Rattle.ysymbols.proofs.NameSteps.{found_or_len}
+use Rattle.std.proofs.Common.{◌∙◌, ℕ, Option, ap, length, unwrap_or}
+use Rattle.ysymbols.proofs.NameSteps.{found_number}
 use Rattle.ysymbols.proofs.names.number_in.Goals as goal
 
 pub returns : goal.returns
-returns c = found_or_len c.args.name.now c.args.names.now.keys c.get_index_of.result c.len.result
-    c.unwrap_or.result c.get_index_of.ensures.index c.len.ensures.len c.unwrap_or.ensures
+returns c = c.unwrap_or.ensures ∙ ap (λ n. unwrap_or c.find.result n) c.len.ensures
+    ∙ ap (λ (o : Option ℕ). unwrap_or o (length c.args.names.now)) c.find.ensures
+    ∙ found_number c.args.names.now c.args.name.now

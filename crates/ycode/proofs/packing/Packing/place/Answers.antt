@@ -86,6 +86,10 @@ returns c =
     let k = C.ok.0 in let o = I.checks.ok.0 in let n = c.place_for-d.ensures.near in
     let z = ap (λ (p : PackingValue). length p.checks) c.self.view_is in
     omega (arith, m, k, o, n, z, wide)) in
+    let even : length I.values.items ≡ length I.checks.items → length v2 ≡ length c2 =
+    λ h. (let a = I.values.ok.0 in let b = I.checks.ok.0 in let x = V.ok.0 in let y = C.ok.0 in
+    let e = c.in_ok-grow.ensures.even (omega (arith, h, a, b)) in
+    omega (arith, e, x, y, lv, lc)) in
     let first : PackingValue = record {
       width = I.width;
       checks = I.checks.items;
@@ -101,7 +105,7 @@ returns c =
     let put : IsPut first (at c2 v2) row d = written I.width I.checks.items C.items c2
     I.values.items V.items v2 I.begun.items B.items b2 d row c.self.invariant g room wide fit fresh
     w3
-    lc lv refl more in
+    lc lv refl more even in
     subst (λ (p : PackingValue). IsPut p (at (with_items C c2).items (with_items V v2).items) row d)
     c.self.view_is
     (subst (λ (x : List ℕ). IsPut first (at x (with_items V v2).items) row d) (sym checks_are)

@@ -7,7 +7,6 @@ use Rattle.ysymbols.specs.Marking.{AreIn}
 use Rattle.ygrammar.specs.Meaning.{IsMeaning}
 use Rattle.ygrammar.specs.Numbers.{AreHolders, AreNumbers}
 use Rattle.ygrammar.proofs.MeaningSteps.{few_tokens, meaning_of, some_rules, whole_of}
-use Rattle.ysymbols.proofs.NameSteps.{length_texts}
 use Rattle.ygrammar.proofs.elaboration.Named.grammar_of.Goals as goal
 
 pub numbers-requires-clause-held : goal.numbers-requires-clause-held
@@ -44,13 +43,12 @@ of-requires c =
     let m : length c.in_ok-reachable.reachable.items ≡ c.len.result = search rules in
     whole_of t c.args.named c.args.rules.items c.args.texts.texts c.in_ok-numbers.numbers.items
     c.in_ok-reachable.reachable.items r n
-    (m ∙ c.len.ensures.len ∙ sym (length_texts c.args.named.names.keys))
+    (m ∙ c.len.ensures)
 
 pub reachable-requires-clause-in_range : goal.reachable-requires-clause-in_range
 reachable-requires-clause-in_range c =
     let (t, r) = c.requires in
-    let n : c.len.result ≡ length (symbols t) = c.len.ensures.len ∙ sym
-    (length_texts c.args.named.names.keys) ∙ ap (λ (x : List (List ℕ)). length x)
+    let n : c.len.result ≡ length (symbols t) = c.len.ensures ∙ ap (λ (x : List (List ℕ)). length x)
     r.named.names in
     subst (λ (vs : List RuleValue). AreIn c.len.result vs) (sym c.deref-3.ensures.value)
     (subst (λ k. AreIn k c.args.rules.items) (sym n) r.in_range)
@@ -64,5 +62,5 @@ returns-clause-means c = λ t r.
     subst (λ (g : GrammarValue). IsMeaning t g) (sym c.of.ensures)
     (meaning_of t c.args.named c.args.rules.items c.deref-3.result.now c.args.texts.texts
     c.in_ok-numbers.numbers.items c.in_ok-reachable.reachable.items c.len.result r n m
-    (c.len.ensures.len ∙ sym (length_texts c.args.named.names.keys)) c.deref-3.ensures.value
+    c.len.ensures c.deref-3.ensures.value
     (λ s l. c.in_ok-reachable.ensures.exact c.args.named.tokens s l))
