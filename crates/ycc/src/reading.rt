@@ -129,7 +129,7 @@ fn count<E: Write>(
         let (path, line) = (file.path.as_str(), span.line);
         writeln!(
             errors,
-            "{path}:{line}: %expect {number}: reduce/reduce conflicts, and none is expected: {reduces}"
+            "{path}:{line}: %expect {number}: unexpected reduce/reduce conflicts: {reduces}"
         )?;
     }
     if foreign.surprises(is_bison) {

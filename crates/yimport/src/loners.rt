@@ -51,7 +51,8 @@ impl Work<'_> {
             Ok(None) => self.edits.list_made(lexeme.text(self.source)),
             Err(_) => self.edits.trouble.remember(Trouble::Memory),
         }
-        self.edits.note(lexeme.span, How::ToMark, Reason::Loner);
+        self.edits
+            .note(lexeme.span, How::ToMark, Reason::TypedToken);
     }
 
     /// Notes the literals of a group, and lists those that are new where `lists`.

@@ -62,7 +62,6 @@ pub enum Reason {
     PrecInside,
     Dash,
     ErrorName,
-    Loner,
 }
 
 /// How something is changed.
@@ -128,7 +127,6 @@ impl Reason {
             Reason::PrecInside => "%prec of yacc stands at the end of a body",
             Reason::Dash => "names of yacc have no dashes",
             Reason::ErrorName => "it's yacc's name for this",
-            Reason::Loner => "no rule has this literal, and it's a token",
         }
     }
 

@@ -2,11 +2,11 @@
 //!
 //! `words`, `machine` and `errors` have the fixed texts, which read the arrays of `ycode` as its
 //! definitions say, with conditions that `template` knows; `tables` writes the arrays, `numbering`
-//! has the numbers of tokens, and `lists` what is needed for lists as bison has them; `spoken` has messages for errors. `style` says how
-//! the parser looks; `references` finds the values and places that actions name, `scene` says
-//! where they stand, and `actions` writes them; `declared` has tokens and types, `calls` functions
-//! with their parameters, `cares` what is done with values. `parser` puts all together for a
-//! `skeleton`, in a `text` that knows its lines.
+//! has the numbers of tokens, and `lists` what is needed for lists as bison has them; `spoken` has
+//! messages for errors. `style` says how the parser looks; `references` finds the values and places
+//! that actions name, `scene` says where they stand, and `actions` writes them; `declared` has
+//! tokens and types, `calls` functions with their parameters, `cares` what is done with values.
+//! `parser` puts all together for a `skeleton`, in a `text` that knows its lines.
 #![tactic(auto)]
 
 mod actions;

@@ -107,7 +107,7 @@ yyloop:
       YYTRACE ((stderr, "%sdebug: state %u, reading %d (%s)\n", YYPREFIX, yystate, yychar,
                 YYNAME (yychar)));
     }
-  yytoken = YYTRANSLATE (yychar);
+  yytoken = YY_CAST (unsigned, YYTRANSLATE (yychar));
   if (yytoken == YYERRTOKEN)
     {
       /* the lexer has told of the error itself */
@@ -234,10 +234,10 @@ yygrow:
         YYFREE (yynewvs);
         YYNOMEM;
       }
-    memcpy (YY_CAST (void *, yynewls), YY_CAST (const void *, yyls), yyused * sizeof *yynewls);
+    YYMOVE (yynewls, yyls, yyused);
 @end
-    memcpy (yynewss, yyss, yyused * sizeof *yynewss);
-    memcpy (YY_CAST (void *, yynewvs), YY_CAST (const void *, yyvs), yyused * sizeof *yynewvs);
+    YYMOVE (yynewss, yyss, yyused);
+    YYMOVE (yynewvs, yyvs, yyused);
     if (yyss != yyssa)
       {
         YYFREE (yyss);
@@ -423,7 +423,7 @@ yyreturn:
 @if destroys
   if (yychar != YYNOTOKEN)
     {
-      yytoken = YYTRANSLATE (yychar);
+      yytoken = YY_CAST (unsigned, YYTRANSLATE (yychar));
       YYDESTRUCT (YY_CAST (int, yytoken), &yylval, &yylloc);
     }
   /* The symbols of a rule whose action ended the parse are that action's. */

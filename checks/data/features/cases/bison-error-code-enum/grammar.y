@@ -7,7 +7,7 @@ extern void tell_macros (void);
 %token NUMBER
 %%
 all : NUMBER          { printf ("number %d\n", $1); }
-    | NUMBER error    { printf ("recovered\n"); }
+    | NUMBER error ';' { printf ("recovered\n"); }
     ;
 %%
 static int yylex (void)

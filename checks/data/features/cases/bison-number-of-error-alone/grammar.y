@@ -7,7 +7,7 @@ static void yyerror (const char *what);
 %token A 256
 %%
 all : A               { printf ("A %d, error %d\n", A, YYerror); }
-    | A error         { printf ("recovered\n"); }
+    | A error ';'     { printf ("recovered\n"); }
     ;
 %%
 static int yylex (void)

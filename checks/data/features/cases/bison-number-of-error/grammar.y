@@ -8,7 +8,7 @@ static void yyerror (const char *what);
 %%
 all : A               { printf ("A %d, error %d\n", A, YYerror); }
     | B               { printf ("B\n"); }
-    | A error         { printf ("recovered\n"); }
+    | A error ';'     { printf ("recovered\n"); }
     | C A             { printf ("C %d\n", C); }
     ;
 %%

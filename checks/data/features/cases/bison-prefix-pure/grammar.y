@@ -10,7 +10,7 @@ static void zzerror (ZZLTYPE *place, const char *what);
 %%
 /* The number of errors has the name of the prefix in parsers without shared variables, too. */
 all : NUMBER          { printf ("number %d, errors %d\n", $1, zznerrs); }
-    | NUMBER error    { printf ("errors %d\n", zznerrs); }
+    | NUMBER error ';' { printf ("errors %d\n", zznerrs); }
     ;
 %%
 static int zzlex (ZZSTYPE *value, ZZLTYPE *place)

@@ -8,7 +8,7 @@ static int read_token (int *value);
 %token NUMBER
 %%
 all : NUMBER          { printf ("number %d, errors %d\n", $1, zznerrs); }
-    | NUMBER error    { printf ("errors %d\n", zznerrs); }
+    | NUMBER error ';' { printf ("errors %d\n", zznerrs); }
     ;
 %%
 static int read_token (int *value)
