@@ -116,7 +116,7 @@ pub fn is_among<F: Files + AllocGlobal>(rt: &F, path: &str, files: &[&str]) -> i
 pub enum Clash<'a> {
     /// One is an input.
     Input(&'a str),
-    /// Two are one file: the first of them.
+    /// Two are one file.
     Both(&'a str),
 }
 
@@ -146,7 +146,7 @@ pub fn clash_of<'a, F: Files + AllocGlobal>(
         for other in outputs.get(..place).unwrap_or(&[]) {
             if let Some(other) = *other {
                 if is_same_file(rt, path, other)? {
-                    return Ok(Some(Clash::Both(other)));
+                    return Ok(Some(Clash::Both(path)));
                 }
             }
         }
