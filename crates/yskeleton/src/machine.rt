@@ -135,7 +135,7 @@ yyloop:
         goto yyreduce;
 @if bison
       /* The end is an entry of bison's stack. */
-      if (yydepth <= 3 && yydepth >= YYMAXDEPTH)
+      if (yyssp + 1 == yysslast && yydepth >= YYMAXDEPTH)
         YYNOMEM;
 @end
       YYSTEP ('a', 0);
