@@ -1,22 +1,23 @@
 """Runs the programs between devices that fail, on hostile files and streams, on full disks.
 
-    hostile [yacc=PATH] [ystep=PATH] [ydebug=PATH]
+    hostile [yacc=PATH] [ystep=PATH] [ycc=PATH] [ydebug=PATH]
 
 Each run must leave a beginning of the usual text, the message and the status that docs/FORMATS.md
 has for it, and nothing else. So must files that are cut off anywhere, and files at each limit. The
-debugger gets full disks, and pipes that nobody reads. The last line is `N passed, M failed`.
+debugger gets full disks, and pipes that nobody reads; what `ycc` and the debugger say goes nowhere,
+and their outputs are inputs by second names. The last line is `N passed, M failed`.
 """
 import os
 import subprocess
 import tempfile
 from concurrent.futures import ThreadPoolExecutor
 
-from checks.hostile import beginnings, between, limits, outputs, strange
+from checks.hostile import beginnings, between, limits, outputs, strange, unsaid
 from checks.shared.arguments import asked
 from checks.shared.libraries import DEVICES, library_in
 from checks.shared.tally import Tally
 
-MODULES = (limits, between, strange, beginnings, outputs)
+MODULES = (limits, between, strange, beginnings, outputs, unsaid)
 
 
 def results_of(task):
@@ -42,7 +43,7 @@ def results_in(room, programs):
 
 def main(words):
     """Runs all hostile cases."""
-    given, tally = asked(__doc__, words, ("yacc", "ystep", "ydebug")), Tally()
+    given, tally = asked(__doc__, words, ("yacc", "ystep", "ycc", "ydebug")), Tally()
     with tempfile.TemporaryDirectory() as room:
         for name, lines in results_in(room, given.programs):
             tally.take(name, lines)

@@ -7,22 +7,24 @@ parsers are made twice: by the peer that its file `case` names, and by ycc, in f
 names. Both programs run on each input, and standard output, standard error and status have to be
 the same, byte for byte. What ycc wrote is compiled by each compiler that is there, with all
 warnings and the sanitizers; one warning fails the case. With `--peer-twice` the peer stands in
-ycc's place, bison without default reductions: so it shows that a case depends on nothing that ycc
-does otherwise by design.
+ycc's place, bison without default reductions where `case` hasn't `--bison-lists`: so it shows that
+a case depends on nothing that ycc does otherwise by design.
 
 Each file of checks/data/features/refused has to be refused with status 1, a message that names the
 file and the line below its comment `refused below: WORDS`, and has these words; no file may be
 written.
 
-A line of `case` has a key and words; but for `peer` each may be left out:
+A line of `case` has a key and words; but for `peer` each may be left out. In words for programs a
+newline may stand as in C:
 
     peer bison byacc                  each is a case of its own, and so is
     language c90 c++17                each language
     make -d -o parser.c grammar.y     words for the program that makes a parser, once for each
     ycc --bison                       words for ycc alone, in bison's place
     compile parser.c other.c          what is compiled and linked
-    flags -DYYDEBUG=1                 for the compilers
+    flags -DYYDEBUG=1                 for the compilers; each line is a case of its own
     status 1                          what the program that makes a parser ends with
+    told warning: parse.lac           words of a line that ycc alone says
     environment YYDEBUG=1             what the program finds there
     input 1 + 2\\n                     standard input of one run; a newline follows
 """
@@ -48,8 +50,11 @@ COMPILERS = {"c": ["gcc", "clang"], "c++": ["g++", "clang++"]}
 STRICT = ["-Wall", "-Wextra", "-pedantic", "-O1", "-g"]
 CHECKED = ["-fsanitize=address,undefined", "-fno-sanitize-recover=all"]
 EASY = ["-w", "-O1"]
+# The word by which ycc lists tokens as bison does after its default reductions.
+LISTS = "--bison-lists"
 EAGER = {"bison": ["-Flr.default-reduction=consistent"], "byacc": []}
-KEYS = {"peer", "language", "make", "ycc", "compile", "flags", "status", "environment", "input"}
+KEYS = {"peer", "language", "make", "ycc", "compile", "flags", "status", "told", "environment"}
+KEYS |= {"input"}
 REFUSED = re.compile(r"refused below: (.*?) *\*/")
 # What `-v` tells of ycc.
 TOLD = re.compile(r"^ycc: .*: order and names of \w+\n", re.M)
@@ -73,6 +78,7 @@ class Case:
     lines: dict = field(default_factory=dict)
     peer: str = ""
     language: str = ""
+    flags: str = ""
 
     def all(self, key, default):
         """The texts of all lines with a key."""
@@ -80,17 +86,19 @@ class Case:
 
     def words(self, key, default=""):
         """The words of the line with a key."""
-        return self.all(key, default)[0].split()
+        return words_of(self.all(key, default)[0])
 
     @property
     def name(self):
         """The name of the case."""
-        return f"{self.folder.name}, {self.peer}, {self.language}"
+        parts = [self.folder.name, self.peer, self.language]
+        return ", ".join(parts + [self.flags] * (len(self.all("flags", "")) > 1))
 
     @property
     def ways(self):
-        """Each peer with each language."""
-        return itertools.product(self.words("peer"), self.words("language", "c90"))
+        """Each peer with each language and the flags of each line."""
+        languages = self.words("language", "c90")
+        return itertools.product(self.words("peer"), languages, self.all("flags", ""))
 
 
 @dataclass
@@ -100,6 +108,11 @@ class Maker:
     words: list
     is_strict: bool
     is_peer: bool = False
+
+
+def words_of(text):
+    """The words of a text, in which a newline stands as in C."""
+    return [word.replace("\\n", "\n") for word in text.split()]
 
 
 def read(folder):
@@ -147,7 +160,7 @@ def make(case, maker, room):
     """Makes the parsers of a case: what was said, and which files there are if they were made."""
     wanted, said = int(case.words("status", "0")[0]), []
     for words in case.all("make", "-o parser.c grammar.y"):
-        made = run([*maker.words, *words.split()], room)
+        made = run([*maker.words, *words_of(words)], room)
         said.append(text_of(made.stderr))
         if made.returncode != wanted:
             raise Differs(f"{maker.words[0]} {words}: status {made.returncode}\n{said[-1]}")
@@ -172,7 +185,7 @@ def compiled(case, maker, compiler, room):
     how = [*STRICT, *CHECKED] if maker.is_strict else EASY
     how = [*how, *(["-x", "c++"] if "++" in case.language else [])]
     program = f"program-{compiler}"
-    words = [*case.words("flags"), "-o", program, *case.words("compile", "parser.c")]
+    words = [*case.flags.split(), "-o", program, *case.words("compile", "parser.c")]
     made = run([compiler, f"-std={case.language}", *how, *words], room)
     said = text_of(made.stderr)
     if made.returncode or (maker.is_strict and warned(case, maker, said)):
@@ -217,10 +230,19 @@ def compare_runs(wanted, made, compiler):
         raise Differs(f"{compiler}, input {text_of(wanted[0])!r}\n{both}")
 
 
-def compare_making(wanted, made):
+def told(said, words):
+    """What was said, without the lines that are asked for; one with the words has to be there."""
+    lines = TOLD.sub("", said).splitlines(keepends=True)
+    kept = [line for line in lines if not words or words not in line]
+    if words and kept == lines:
+        raise Differs(f"it is not said: {words}")
+    return "".join(kept)
+
+
+def compare_making(wanted, made, words=""):
     """Where the peer says nothing, nothing is to be said; both write files of the same names."""
     for theirs, ours in zip(wanted[0], made[0], strict=True):
-        if TOLD.sub("", ours) and not theirs:
+        if told(ours, words) and not theirs:
             raise Differs(f"the peer says nothing, and here it is said: {ours}")
     if wanted[1] != made[1]:
         more, fewer = sorted(made[1] - wanted[1]), sorted(wanted[1] - made[1])
@@ -240,9 +262,10 @@ def compare_results(theirs, ours):
 def makers_of(case, ycc):
     """The peer, and what is compared with it."""
     peer = Maker([case.peer], False)
-    if ycc is None:
-        return peer, Maker([case.peer, *EAGER[case.peer]], True, is_peer=True)
     own = case.words("ycc") if case.peer == "bison" else []
+    if ycc is None:
+        eager = [] if LISTS in own else EAGER[case.peer]
+        return peer, Maker([case.peer, *eager], True, is_peer=True)
     return peer, Maker([ycc, *own], True)
 
 
@@ -256,7 +279,7 @@ def compare(case, ycc, kept):
         finally:
             if kept:
                 shutil.copytree(second, f"{kept}/{case.name}", dirs_exist_ok=True)
-        compare_making(wanted, made)
+        compare_making(wanted, made, case.all("told", "")[0] if ycc else "")
         if theirs:
             compare_results(theirs, ours)
 
@@ -305,8 +328,8 @@ def cases():
     """Each case, with each of its peers and languages."""
     for folder in sorted((FEATURES / "cases").iterdir()):
         case = read(folder)
-        for peer, language in case.ways:
-            yield replace(case, peer=peer, language=language)
+        for peer, language, flags in case.ways:
+            yield replace(case, peer=peer, language=language, flags=flags)
 
 
 def missing():

@@ -199,6 +199,13 @@ class Features(Planted):
         for made in ((["warning"], right[1]), ([""], {"parser.c"}), ([""], {*right[1], "more"})):
             self.assertTrue(self.look(features.compare_making, right, made))
 
+    def test_told(self):
+        """Words that ycc alone is to say: they are missing, or there is more."""
+        files = {"parser.c"}
+        for said, wrong in (("a.y: not done\n", False), ("", True), ("not done\nmore\n", True)):
+            found = self.look(features.compare_making, ([""], files), ([said], files), "not done")
+            self.assertEqual(bool(found), wrong)
+
     def test_refused(self):
         """Another line, other words, another status, a file that is left."""
         file = self.room / "some.y"

@@ -123,7 +123,7 @@ pub fn open_counted<F: Files + AllocGlobal, E: Write>(
 ) -> io::Result<Result<Counted, u8>> {
     let bytes = match grammar_bytes(rt, file.path) {
         Ok(bytes) => bytes,
-        Err(error) => return put_unread(errors, file.path, &error).map(Err),
+        Err(error) => return put_unread(errors, file.path, error).map(Err),
     };
     if !file.bison {
         return open_plain(rt, file, bytes, errors);

@@ -6,12 +6,12 @@ use crate::notes::{Source, Telling, put_expected, put_notes, put_span};
 use crate::opening::{Origin, open_bytes};
 use crate::peer::Peer;
 use std::alloc::Global;
-use std::io::{self, Write};
+use std::io::{self, ErrorKind, Write};
 use std::rt::Files;
 use yexplain::lines::is_inner;
 use yexplain::reads::{Made, grammar_of};
 use yfaults::opening::{Opened, Trouble, grammar_bytes, put_trouble, put_unread};
-use yfiles::same::refused_output;
+use yfiles::same::refused_outputs;
 use yfiles::writing::put_output;
 use ygrammar::{GrammarFault, LONGEST_FILE, PlacedFault};
 use yimport::import::{Imported, import};
@@ -174,10 +174,7 @@ fn imported_from<E: Write>(
             writeln!(errors, "refused: {why}")?;
             Ok(Err(1))
         }
-        Err(refusal::Trouble::Memory) => {
-            writeln!(errors, "ydebug: no memory")?;
-            Ok(Err(3))
-        }
+        Err(refusal::Trouble::Memory) => Err(io::Error::from(ErrorKind::OutOfMemory)),
     }
 }
 
@@ -190,13 +187,13 @@ pub fn run_import<F: Files + AllocGlobal, W: Write, E: Write>(
     out: &mut W,
     errors: &mut E,
 ) -> io::Result<u8> {
-    if let Some(status) = refused_output(rt, asked.output, &[asked.file], errors)? {
+    if let Some(status) = refused_outputs(rt, &[asked.output], &[asked.file], errors)? {
         return Ok(status);
     }
     let (alloc, path) = (rt.alloc(), asked.file);
     let read = match grammar_bytes(rt, path) {
         Ok(bytes) => bytes,
-        Err(error) => return put_unread(errors, path, &error),
+        Err(error) => return put_unread(errors, path, error),
     };
     let source = Source {
         path,
@@ -235,10 +232,18 @@ fn differs(expected: Option<Expected>, found: usize) -> bool {
 }
 
 impl Foreign {
-    /// Whether the file expects other numbers of conflicts than it has.
-    pub fn surprises(&self) -> bool {
-        differs(self.imported.shift_reduce, self.counts.shift_reduce)
-            || differs(self.imported.reduce_reduce, self.counts.reduce_reduce)
+    /// Whether the file expects other numbers of conflicts than it has. Where it is one of bison,
+    /// `%expect-rr` is for another kind of parser, and `%expect` expects no reduce/reduce
+    /// conflicts.
+    pub fn surprises(&self, is_bison: bool) -> bool {
+        let shifts = self.imported.shift_reduce;
+        let counts = self.counts;
+        let others = if is_bison {
+            shifts.is_some() && counts.reduce_reduce != 0
+        } else {
+            differs(self.imported.reduce_reduce, counts.reduce_reduce)
+        };
+        others || differs(shifts, counts.shift_reduce)
     }
 }
 

@@ -5,6 +5,7 @@ use std::fmt::Display;
 use std::io::{self, Write};
 use yexplain::lines::Spots;
 use yfaults::shown::Place;
+use yfiles::steady::Steady;
 use yskeleton::Misuse;
 
 /// How the program ends.
@@ -12,10 +13,16 @@ use yskeleton::Misuse;
 pub enum Ending {
     /// Help or a version was asked for, and is written.
     Helped,
+    /// All files are written, and not all could be said that was to be said.
+    Untold,
     /// The grammar file is refused, and that is said.
     Refused,
+    /// It is refused for a later bison that it requires, and that is said.
+    Later,
     /// The words are refused.
     Words,
+    /// An argument is no text, or an output is an input or another output, and that is said.
+    Arguments,
     /// Memory ran out.
     Memory,
     /// A file can't be read or written, and that is said.
@@ -46,6 +53,8 @@ pub struct File {
     pub bytes: Vec<u8>,
     /// The variables that words set as if the file did, with a zero after each.
     pub variables: Vec<u8>,
+    /// Whether words ask for the order and the names of bison.
+    pub is_bison: bool,
 }
 
 /// Says that a file can't be opened, read or written, or that memory ran out.
@@ -74,7 +83,7 @@ impl File {
 
     /// Says why a file is refused that is at a place.
     pub fn refuse(&self, rt: &HostRuntime, at: usize, why: &str) -> Ending {
-        let mut out = rt.stderr();
+        let mut out = Steady::new(rt.stderr(), true);
         let said = self
             .put_line(&mut out, at)
             .and_then(|()| writeln!(out, "{why}"));
@@ -86,7 +95,7 @@ impl File {
 
     /// Says what is wrong with a value that an action names, and at which place.
     pub fn put_misused(&self, rt: &HostRuntime, misuse: Misuse, at: usize) -> io::Result<()> {
-        let mut out = rt.stderr();
+        let mut out = Steady::new(rt.stderr(), true);
         self.put_line(&mut out, at)?;
         put_misuse(&mut out, misuse)?;
         self.put_place(&mut out, at)

@@ -20,10 +20,12 @@ use crate::words::{Given, USAGE, VERSION, command, given_in, is_idle, is_other, 
 use clap::error::ErrorKind;
 use clap::{ArgMatches, Command};
 use std::alloc::AllocError;
-use std::env;
 use std::io::Write;
 use std::process::ExitCode;
+use yexplain::text::Escaped;
 use yfaults::opening::grammar_bytes;
+use yfiles::arguments::{Arguments, arguments_of};
+use yfiles::steady::Steady;
 use yparts::options::{Options, Purity};
 
 /// The text between the braces or quotes of a value, and whether they are braces.
@@ -57,7 +59,7 @@ fn define_one<'a>(
     options.is_bison = true;
     if let Err(refusal) = options.define(name, value, is_code) {
         let why = refusal.text();
-        let mut out = rt.stderr();
+        let mut out = Steady::new(rt.stderr(), true);
         out.write_all(b"ycc: -D ")?;
         out.write_all(variable)?;
         writeln!(out, ": {why}")?;
@@ -91,7 +93,12 @@ fn generate(rt: &HostRuntime, given: Given<'_>, file: &File) -> Result<(), Endin
     let mut found = read(rt, file)?;
     wish(given, &mut found);
     define(rt, file.variables.as_slice(), &mut found)?;
-    write_files(rt, given, file, &found)
+    write_files(rt, given, file, &found)?;
+    if found.is_told {
+        Ok(())
+    } else {
+        Err(Ending::Untold)
+    }
 }
 
 /// Does what words ask for.
@@ -104,6 +111,7 @@ fn obey(rt: &HostRuntime, given: Given<'_>, variables: Vec<u8>) -> Result<(), En
     let file = File {
         path: format!(in rt.alloc(); "{name}")?,
         bytes,
+        is_bison: given.bison || !variables.is_empty(),
         variables,
     };
     generate(rt, given, &file)
@@ -158,9 +166,21 @@ fn answer(rt: &HostRuntime, word: &str) -> Result<(), Ending> {
     Ok(())
 }
 
+/// The arguments; where one is no text, that is said.
+fn arguments_in(rt: &HostRuntime) -> Result<Vec<String>, Ending> {
+    match arguments_of(rt)? {
+        Arguments::All(given) => Ok(given),
+        Arguments::NoText(bytes) => {
+            let argument = Escaped(&bytes);
+            let _ = writeln!(rt.stderr(), "ycc: {argument} is no UTF-8 text");
+            Err(Ending::Arguments)
+        }
+    }
+}
+
 /// Reads the words and does what they ask for.
 fn run(rt: &HostRuntime) -> Result<(), Ending> {
-    let given: Vec<String> = env::args(rt)?.collect(rt.alloc())?;
+    let given = arguments_in(rt)?;
     let mut words = Vec::with_capacity(rt.alloc(), given.len())?;
     for word in &given {
         answer(rt, word)?;
@@ -180,8 +200,10 @@ fn run(rt: &HostRuntime) -> Result<(), Ending> {
 fn end(rt: &HostRuntime, ending: Ending) -> u8 {
     let (text, status): (&[u8], u8) = match ending {
         Ending::Helped => (b"", 0),
-        Ending::Refused => (b"", 1),
+        Ending::Refused | Ending::Untold => (b"", 1),
+        Ending::Later => (b"", 63),
         Ending::Words => (USAGE, 2),
+        Ending::Arguments => (b"", 2),
         Ending::Memory => (b"ycc: no memory\n", 3),
         Ending::Outside => (b"", 3),
     };

@@ -9,9 +9,10 @@ use std::alloc::Global;
 use std::io::Write;
 use ycode::code_of;
 use yexplain::reads::Made;
+use yfiles::same::clash_of;
 use yfiles::writing::write_over;
 use yparts::options::{Header, Options};
-use yskeleton::{Mode, Skeleton, Text, Trouble, Wishes, default_rules, style_of};
+use yskeleton::{Mode, Numbering, Skeleton, Text, Trouble, Wishes, default_rules, style_of};
 use ytables::{Link, Tables};
 
 /// A text that was made; where an action stands in its way, that is said.
@@ -58,6 +59,24 @@ struct Texts<'a> {
 }
 
 impl Texts<'_> {
+    /// Says that a file would be written over another that is read or written, where one would.
+    fn guard(&self, rt: &HostRuntime, given: Given<'_>, names: &Names) -> Result<(), Ending> {
+        let outputs = [
+            Some(names.parser.as_str()),
+            self.header.as_ref().map(|_| names.header.as_str()),
+            self.report.as_ref().map(|_| names.report.as_str()),
+            self.table.as_ref().map(|_| names.table.as_str()),
+        ];
+        let inputs = [given.grammar, given.messages.unwrap_or(given.grammar)];
+        match clash_of(rt, &outputs, &inputs)? {
+            Some(clash) => {
+                let _ = writeln!(rt.stderr(), "ycc: {clash}");
+                Err(Ending::Arguments)
+            }
+            None => Ok(()),
+        }
+    }
+
     /// Writes the files.
     fn write(&self, rt: &HostRuntime, names: &Names) -> Result<(), Ending> {
         write(rt, &names.parser, self.parser.bytes())?;
@@ -105,6 +124,15 @@ fn tell_mode(rt: &HostRuntime, file: &File, mode: Mode) {
     let _ = writeln!(rt.stderr(), "ycc: {path}: order and names of {whose}");
 }
 
+/// Says that what a file asks for is not done.
+fn tell_lac(rt: &HostRuntime, file: &File) {
+    let path = file.path.as_str();
+    let _ = writeln!(
+        rt.stderr(),
+        "{path}: warning: parse.lac is not done: lists can lack tokens that could come"
+    );
+}
+
 /// Makes all texts, and then writes their files.
 pub fn write_files(
     rt: &HostRuntime,
@@ -120,17 +148,23 @@ pub fn write_files(
     if given.verbose {
         tell_mode(rt, file, wishes.mode);
     }
+    if options.lac {
+        tell_lac(rt, file);
+    }
     let style = style_of(alloc, parts, wishes, given.prefix)?;
     let code = code_of(alloc, tables)?;
     let speech = speech_of(rt, given.messages, tables, &style)?;
+    let grammar = tables.automaton().grammar();
+    let numbering = Numbering::of(alloc, grammar, parts, &code)?;
     let skeleton = Skeleton {
         path: file.path.as_str(),
         parser_path: names.parser.as_str(),
         header_path: names.header.as_str(),
-        grammar: tables.automaton().grammar(),
+        grammar,
         parts,
         style: &style,
         code: &code,
+        numbering: &numbering,
         speech: speech.as_ref(),
     };
     make(rt, given, file, tables, &skeleton, &names)
@@ -145,7 +179,9 @@ fn make(
     skeleton: &Skeleton<'_>,
     names: &Names,
 ) -> Result<(), Ending> {
-    texts_of(rt, given, file, tables, skeleton)?.write(rt, names)
+    let texts = texts_of(rt, given, file, tables, skeleton)?;
+    texts.guard(rt, given, names)?;
+    texts.write(rt, names)
 }
 
 /// The rules by which bison's lists go, where these are wanted.

@@ -4,6 +4,7 @@ use crate::ending::{Ending, outside};
 use std::alloc::Global;
 use std::io::{self, Write};
 use yfiles::reading::{LONGEST_INPUT, Limited};
+use yfiles::steady::Steady;
 use ymessages::inputs::Inputs;
 use ymessages::messages::Messages;
 use ymessages::slots::Slot;
@@ -53,7 +54,7 @@ fn bytes_in(rt: &HostRuntime, path: &str) -> Result<Vec<u8>, Ending> {
     match file.bytes(rt) {
         Ok(Some(bytes)) => Ok(bytes),
         Ok(None) => {
-            file.put_long(rt, &mut rt.stderr())?;
+            file.put_long(rt, &mut Steady::new(rt.stderr(), true))?;
             Err(Ending::Refused)
         }
         Err(error) => Err(outside(rt, "read", path, &error)),
@@ -64,7 +65,8 @@ fn bytes_in(rt: &HostRuntime, path: &str) -> Result<Vec<u8>, Ending> {
 fn read_speech(rt: &HostRuntime, path: &str, tables: &Tables) -> Result<Speech, Ending> {
     let bytes = bytes_in(rt, path)?;
     let inputs = Inputs::of_tokens(tables);
-    match Messages::checked(rt.alloc(), inputs, (path, false), bytes, &mut rt.stderr())? {
+    let mut errors = Steady::new(rt.stderr(), true);
+    match Messages::checked(rt.alloc(), inputs, (path, false), bytes, &mut errors)? {
         Ok(messages) => Ok(spoken(rt.alloc(), tables, &messages)?),
         Err(_) => Err(Ending::Refused),
     }
@@ -81,11 +83,10 @@ pub fn speech_of(
         return Ok(None);
     };
     if style.is_custom() {
-        let mut out = rt.stderr();
-        writeln!(
-            out,
+        let _ = writeln!(
+            rt.stderr(),
             "ycc: {path}: with %define parse.error custom no message is said"
-        )?;
+        );
         return Err(Ending::Refused);
     }
     Ok(Some(read_speech(rt, path, tables)?))

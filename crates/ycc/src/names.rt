@@ -110,12 +110,12 @@ fn names_for(
         return names_by_parser(alloc, path);
     }
     let (stem, named) = named_by(given.grammar);
-    let endings = if is_bison { named } else { PLAIN };
     let is_yacc = given.yacc || options.is_yacc || !is_bison;
+    let endings = if is_yacc { PLAIN } else { named };
     let prefix = given.files.or(word(options.file_prefix));
     match prefix {
         Some(prefix) => names_by_prefix(alloc, prefix, endings),
-        None if is_yacc => names_by_prefix(alloc, "y", PLAIN),
+        None if is_yacc => names_by_prefix(alloc, "y", endings),
         None => names_by_prefix(alloc, stem, endings),
     }
 }

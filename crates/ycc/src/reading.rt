@@ -5,13 +5,15 @@ use std::io::{self, Write};
 use ybison::import::{Foreign, open_import};
 use ybison::notes::Source;
 use yfaults::opening::{Opened, Trouble as Unopened, put_trouble};
+use yfiles::steady::Steady;
 use yforeign::directive::is_imported;
-use ygrammar::{Grammar, LONGEST_FILE, Mapped, Mark, read_mapped};
+use ygrammar::{Grammar, GrammarFault, LONGEST_FILE, Mapped, Mark, read_mapped};
 use yimport::import::{Imported, import};
 use yimport::refusal::Trouble as Unimported;
+use yimport::symbols::Expected;
 use ylalr::build;
 use yparts::parts::Parts;
-use yparts::refusal::Trouble as Unmade;
+use yparts::refusal::{Refusal, Trouble as Unmade};
 use yparts::{foreign, native};
 use ytables::{Counts, Tables, resolve};
 
@@ -22,16 +24,17 @@ pub struct Reading<'a> {
     pub tables: Tables,
     /// What it says of its parser.
     pub parts: Parts<'a>,
+    /// Whether all was written that is said of it.
+    pub is_told: bool,
 }
 
 /// Says why a grammar file has no tables.
 fn refused(rt: &HostRuntime, file: &File, trouble: &Unopened<'_>) -> Ending {
-    if matches!(trouble, Unopened::Memory) {
-        return Ending::Memory;
-    }
     let (path, bytes) = (file.path.as_str(), file.bytes.as_slice());
-    match put_trouble(&mut rt.stderr(), rt.alloc(), (path, bytes), trouble, None) {
-        Ok(()) => Ending::Refused,
+    let mut errors = Steady::new(rt.stderr(), true);
+    match put_trouble(&mut errors, rt.alloc(), (path, bytes), trouble, None) {
+        Ok(()) if trouble.status() == 1 => Ending::Refused,
+        Ok(()) => Ending::Outside,
         Err(error) => Ending::from(error),
     }
 }
@@ -61,12 +64,12 @@ fn tables_of(rt: &HostRuntime, file: &File, grammar: Grammar) -> Result<Tables, 
 }
 
 /// Says how many conflicts there are, where there are some.
-fn put_conflicts(rt: &HostRuntime, first: u64, second: u64) -> io::Result<()> {
+fn put_conflicts<E: Write>(errors: &mut E, first: u64, second: u64) -> io::Result<()> {
     if first == 0 && second == 0 {
         return Ok(());
     }
     writeln!(
-        rt.stderr(),
+        errors,
         "conflicts: {first} shift/reduce, {second} reduce/reduce"
     )
 }
@@ -83,8 +86,13 @@ fn read_native<'a>(
         shift_reduce,
         reduce_reduce,
     } = tables.conflicts();
-    put_conflicts(rt, shift_reduce, reduce_reduce)?;
-    Ok(Reading { tables, parts })
+    let mut errors = Steady::new(rt.stderr(), true);
+    put_conflicts(&mut errors, shift_reduce, reduce_reduce)?;
+    Ok(Reading {
+        tables,
+        parts,
+        is_told: errors.finish().is_ok(),
+    })
 }
 
 /// What a foreign file says of its parser; where that is refused, it is said.
@@ -94,23 +102,41 @@ fn parts_in<'a, 'b>(
     grammar: &'b Grammar,
     imported: &'b Imported,
 ) -> Result<Parts<'a>, Ending> {
-    match foreign::parts_of(rt.alloc(), file.bytes.as_slice(), grammar, imported) {
+    match foreign::parts_of(rt.alloc(), &file.bytes, grammar, imported, file.is_bison) {
         Ok(parts) => Ok(parts),
         Err(Unmade::Memory) => Err(Ending::Memory),
-        Err(Unmade::Refused(refusal, at)) => Err(file.refuse(rt, at, refusal.text())),
+        Err(Unmade::Refused(refusal, at)) => match file.refuse(rt, at, refusal.text()) {
+            Ending::Refused if refusal == Refusal::Later => Err(Ending::Later),
+            ending => Err(ending),
+        },
     }
 }
 
 /// Says how many conflicts a foreign file has, unless it expects some; where it expects others,
-/// that was said, and it is refused.
-fn count(rt: &HostRuntime, foreign: &Foreign) -> Result<(), Ending> {
-    if foreign.surprises() {
+/// it is refused, and that was said, but of reduce/reduce conflicts of bison.
+fn count<E: Write>(
+    errors: &mut E,
+    file: &File,
+    foreign: &Foreign,
+    is_bison: bool,
+) -> Result<(), Ending> {
+    let (imported, counts) = (&foreign.imported, foreign.counts);
+    let reduces = counts.reduce_reduce;
+    if let (Some(Expected { span, number }), true) = (
+        imported.shift_reduce,
+        is_bison && reduces > 0,
+    ) {
+        let (path, line) = (file.path.as_str(), span.line);
+        writeln!(
+            errors,
+            "{path}:{line}: %expect {number}: unexpected reduce/reduce conflicts: {reduces}"
+        )?;
+    }
+    if foreign.surprises(is_bison) {
         return Err(Ending::Refused);
     }
-    let imported = &foreign.imported;
-    if imported.shift_reduce.is_none() && imported.reduce_reduce.is_none() {
-        let counts = foreign.counts;
-        put_conflicts(rt, counts.shift_reduce as u64, counts.reduce_reduce as u64)?;
+    if imported.shift_reduce.is_none() && (is_bison || imported.reduce_reduce.is_none()) {
+        put_conflicts(errors, counts.shift_reduce as u64, reduces as u64)?;
     }
     Ok(())
 }
@@ -127,29 +153,37 @@ fn read_imported<'a>(
         bytes,
         columns: false,
     };
-    let foreign = match open_import(rt.alloc(), &mut rt.stderr(), source, imported)? {
+    let mut errors = Steady::new(rt.stderr(), true);
+    let foreign = match open_import(rt.alloc(), &mut errors, source, imported)? {
         Ok(foreign) => foreign,
         Err(3) => return Err(Ending::Outside),
         Err(_) => return Err(Ending::Refused),
     };
-    count(rt, &foreign)?;
     let grammar = foreign.opened.tables.automaton().grammar();
     let parts = parts_in(rt, file, grammar, &foreign.imported)?;
+    count(&mut errors, file, &foreign, parts.options.is_bison)?;
     let Foreign { opened, .. } = foreign;
     let Opened { tables, .. } = opened;
-    Ok(Reading { tables, parts })
+    Ok(Reading {
+        tables,
+        parts,
+        is_told: errors.finish().is_ok(),
+    })
 }
 
-/// Whether the place where `yacc` stops reading begins with what an import takes.
-fn is_foreign(bytes: &[u8], trouble: &Unopened<'_>) -> bool {
-    match trouble {
-        Unopened::Grammar(refusal) => {
-            let at = refusal.placed.at;
-            let rest = bytes.get(at..).unwrap_or(&[]);
-            rest.starts_with(b"//") || is_imported(rest)
-        }
-        _ => false,
-    }
+/// Whether the place where `yacc` stops reading begins with what an import takes, or an import
+/// comes beyond it, up to a place.
+fn is_foreign(bytes: &[u8], trouble: &Unopened<'_>, end: usize) -> bool {
+    let Unopened::Grammar(refusal) = trouble else {
+        return false;
+    };
+    let at = refusal.placed.at;
+    let rest = bytes.get(at..).unwrap_or(&[]);
+    let is_unread = matches!(
+        refusal.placed.fault,
+        GrammarFault::BadLiteral { .. } | GrammarFault::Foreign { .. } | GrammarFault::Syntax { .. }
+    );
+    rest.starts_with(b"//") || is_imported(rest) || (is_unread && at < end)
 }
 
 /// A file that `yacc` refuses for this reason.
@@ -165,7 +199,7 @@ fn read_other<'a>(
         Ok(imported) if imported.notes.is_empty() => Err(refused(rt, file, trouble)),
         Ok(imported) => read_imported(rt, file, imported),
         Err(Unimported::Memory) => Err(Ending::Memory),
-        Err(Unimported::Refused(found)) if is_foreign(&file.bytes, trouble) => {
+        Err(Unimported::Refused(found)) if is_foreign(&file.bytes, trouble, found.span.from) => {
             Err(file.refuse(rt, found.span.from, found.refusal.text()))
         }
         Err(Unimported::Refused(_)) => Err(refused(rt, file, trouble)),

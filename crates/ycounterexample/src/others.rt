@@ -18,8 +18,8 @@ const MOST_FORMS: usize = 2_000;
 pub struct Others {
     alloc: Global,
     search: Search,
-    /// The next way, once it was sought.
-    way: Option<Vec<Sym>>,
+    /// The next way, once it was sought, and the length of its shortest sentence.
+    way: Option<(Vec<Sym>, u64)>,
     /// Whether there are no more ways.
     done: bool,
     sentences: Sentences,
@@ -43,37 +43,35 @@ impl Others {
         })
     }
 
-    /// The next list; the finder's steps are spent on it.
+    /// The next list. The finder's steps are spent on it, and where too many are, none is found.
     pub fn next(&mut self, finder: &mut Finder, automaton: &Automaton) -> Made<Option<Vec<Sym>>> {
-        let before = self.sentences.symbols();
-        let found = self.next_sentence(finder, automaton);
-        finder.spend(self.sentences.symbols().saturating_sub(before));
-        found
-    }
-
-    /// The next list.
-    fn next_sentence(
-        &mut self,
-        finder: &mut Finder,
-        automaton: &Automaton,
-    ) -> Made<Option<Vec<Sym>>> {
         for _ in 0..MOST_FORMS {
+            if !finder.may_go_on(&self.search) {
+                break;
+            }
             self.seek(finder, automaton)?;
-            if self.is_way_next(finder) {
-                if let Some(way) = self.way.take() {
-                    self.sentences.add(finder, way)?;
-                }
-            } else if self.sentences.least().is_none() {
-                return Ok(None);
-            } else {
-                let grammar = automaton.grammar();
-                let found = self.sentences.take(self.alloc, finder, grammar)?;
-                if found.is_some() {
-                    return Ok(found);
-                }
+            if self.sentences.least().is_none() && self.way.is_none() {
+                break;
+            }
+            let before = self.sentences.symbols();
+            let found = self.look_at_next(finder, automaton)?;
+            finder.spend(self.sentences.symbols().saturating_sub(before));
+            if found.is_some() {
+                return Ok(found);
             }
         }
         Ok(None)
+    }
+
+    /// Takes the next way or form, and gives it where it is a list.
+    fn look_at_next(&mut self, finder: &Finder, automaton: &Automaton) -> Made<Option<Vec<Sym>>> {
+        if self.is_way_next() {
+            if let Some((way, _)) = self.way.take() {
+                self.sentences.add(finder, way)?;
+            }
+            return Ok(None);
+        }
+        self.sentences.take(self.alloc, finder, automaton.grammar())
     }
 
     /// Seeks the next way, where none is there.
@@ -82,7 +80,10 @@ impl Others {
             return Ok(());
         }
         self.way = match finder.next(automaton, &mut self.search)? {
-            Found::Way(way) => Some(way),
+            Found::Way(way) => {
+                let length = finder.length(&way);
+                Some((way, length))
+            }
             Found::Nothing | Found::Late => None,
         };
         self.done = self.way.is_none();
@@ -90,9 +91,9 @@ impl Others {
     }
 
     /// Whether no sentence is shorter than the next way.
-    fn is_way_next(&self, finder: &Finder) -> bool {
+    fn is_way_next(&self) -> bool {
         match (&self.way, self.sentences.least()) {
-            (Some(way), Some(least)) => finder.length(way) <= least,
+            (Some((_, length)), Some(least)) => *length <= least,
             (Some(_), None) => true,
             (None, _) => false,
         }

@@ -220,6 +220,11 @@ impl Finder {
         self.budget.spend(steps);
     }
 
+    /// Whether what a search allows isn't spent yet, of the steps of all kinds.
+    pub fn may_go_on(&self, search: &Search) -> bool {
+        self.budget.has_more_than(search.left.end)
+    }
+
     /// The ways between states.
     pub fn moves(&self) -> &Moves {
         &self.moves
@@ -270,7 +275,7 @@ impl Finder {
     /// The next way of a search, none of them shorter than those before.
     pub fn next(&mut self, automaton: &Automaton, search: &mut Search) -> Made<Found> {
         for _ in 0..MOST_SPOTS {
-            if search.left.spots == 0 || !self.budget.has_more_than(search.left.end) {
+            if search.left.spots == 0 || !self.may_go_on(search) {
                 break;
             }
             let Some((number, node)) = search.take()? else {

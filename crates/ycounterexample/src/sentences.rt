@@ -20,7 +20,7 @@ pub struct Sentences {
     queue: Queue,
     /// How many forms may still be taken in.
     left: usize,
-    /// How many symbols the forms had that were offered.
+    /// How many symbols the forms had that were offered or taken.
     symbols: usize,
 }
 
@@ -36,7 +36,7 @@ impl Sentences {
         }
     }
 
-    /// How many symbols the forms had that were offered.
+    /// How many symbols the forms had that were offered or taken.
     pub fn symbols(&self) -> usize {
         self.symbols
     }
@@ -76,6 +76,7 @@ impl Sentences {
             Some(form) => form.clone()?,
             None => return Ok(None),
         };
+        self.symbols = self.symbols.saturating_add(form.len());
         // the first nonterminal
         match form.iter().position(|symbol| !grammar.is_token(*symbol)) {
             Some(place) => {

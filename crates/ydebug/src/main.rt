@@ -13,8 +13,11 @@
 
 use std::alloc::AllocError;
 use std::env;
-use std::io::{BufWriter, IsTerminal};
+use std::io::{BufWriter, IsTerminal, Write};
 use std::process::ExitCode;
+use yexplain::text::Escaped;
+use yfiles::arguments::{Arguments, arguments_of};
+use yfiles::steady::Steady;
 use yforms::{Ended, Given, Setting, status_of};
 
 /// Whether an environment variable is set to something that counts.
@@ -42,21 +45,35 @@ fn setting_of(rt: &HostRuntime) -> Setting {
     }
 }
 
-/// Reads the words and does what they ask for.
-fn run(rt: &HostRuntime) -> Ended {
-    let arguments: Vec<String> = env::args(rt)?.collect(rt.alloc())?;
+/// Does what arguments ask for. Where what is wrong can't be said, the work is done all the same,
+/// and that is how it ends.
+fn obey(rt: &HostRuntime, arguments: &[String]) -> Ended {
     let mut words = Vec::with_capacity(rt.alloc(), arguments.len())?;
-    for word in &arguments {
+    for word in arguments {
         words.push(word.as_str()).map_err(AllocError::from)?;
     }
     let mut out = BufWriter::new(rt.alloc(), rt.stdout())?;
     let mut given = Given {
         rt,
         input: rt.stdin(),
-        errors: rt.stderr(),
+        errors: Steady::new(rt.stderr(), true),
         setting: setting_of(rt),
     };
-    given.obey(&words, &mut out)
+    let status = given.obey(&words, &mut out)?;
+    given.errors.finish()?;
+    Ok(status)
+}
+
+/// Reads the arguments and does what they ask for; where one is no text, that is said.
+fn run(rt: &HostRuntime) -> Ended {
+    match arguments_of(rt)? {
+        Arguments::All(arguments) => obey(rt, &arguments),
+        Arguments::NoText(bytes) => {
+            let argument = Escaped(&bytes);
+            let _ = writeln!(rt.stderr(), "ydebug: {argument} is no UTF-8 text");
+            Ok(2)
+        }
+    }
 }
 
 fn main(rt: HostRuntime) -> ExitCode {

@@ -73,11 +73,15 @@ pub fn save<F: Files + AllocGlobal, W: Write>(
     path: &str,
     over: bool,
 ) {
-    if source.guards(path) {
-        let _ = writeln!(page, "{path} is an input, and isn't written over.");
-        return;
-    }
-    let words = match save_tokens(source.rt, parse, path, over) {
+    let saved = match source.guards(path) {
+        Ok(true) => {
+            let _ = writeln!(page, "{path} is an input, and isn't written over.");
+            return;
+        }
+        Ok(false) => save_tokens(source.rt, parse, path, over),
+        Err(error) => Err(error),
+    };
+    let words = match saved {
         Ok(()) => " has the tokens, edits included.",
         Err(error) => match error.kind() {
             ErrorKind::AlreadyExists => " is there already; save! writes over it.",

@@ -5,7 +5,7 @@ use crate::document::{Said, VERSION};
 use crate::format::Format;
 use crate::inputs::{InputSheet, Judged, answer_of, refused};
 use crate::messaged::Messaged;
-use crate::told::{About, add_all, checked};
+use crate::told::{About, add_all};
 use std::alloc::Global;
 use std::io::{self, Read, Write};
 use std::rt::Files;
@@ -209,7 +209,6 @@ pub fn run_checking<F: Files + AllocGlobal, R: Read, W: Write>(
     match opened {
         Ok(told) => put_inputs(rt, asked, stdin, &told, &notes, out),
         Err(status) => {
-            checked(&notes)?;
             let diagnostics = asked.told(rt.alloc(), &notes, Severity::Error)?;
             let said = (diagnostics.as_slice(), None);
             put_said(rt.alloc(), asked, said, status, out)

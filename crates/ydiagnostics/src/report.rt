@@ -4,7 +4,7 @@ use crate::diagnostic::{Diagnostic, Severity};
 use crate::document::{ConflictSheet, Said, VERSION};
 use crate::format::Format;
 use crate::kinds::Shown;
-use crate::told::{About, add_all, checked};
+use crate::told::{About, add_all};
 use std::alloc::Global;
 use std::io::{self, Write};
 use std::rt::Files;
@@ -299,7 +299,6 @@ pub fn run_report<F: Files + AllocGlobal, W: Write>(
     match opened {
         Ok(counted) => put_counted(rt, asked, counted, &told, out),
         Err(status) => {
-            checked(&told)?;
             let diagnostics = asked.told(rt.alloc(), &told, Severity::Error)?;
             said(asked, status, &diagnostics).put(rt.alloc(), out, asked.format)
         }

@@ -5,8 +5,7 @@
 
 use crate::diagnostic::{Diagnostic, Severity};
 use std::alloc::Global;
-use std::io::{self, ErrorKind};
-use std::str;
+use std::{io, str};
 use yexplain::lines::Spot;
 use yexplain::reads::Made;
 use yexplain::text::Escaped;
@@ -111,15 +110,6 @@ impl<'a> About<'a> {
         }
         Ok(found)
     }
-}
-
-/// Lines that say why a file isn't taken, as an error where they say that memory ran out: that is
-/// told in no form.
-pub fn checked(text: &[u8]) -> io::Result<()> {
-    if text.ends_with(b"ydebug: no memory\n") {
-        return Err(io::Error::from(ErrorKind::OutOfMemory));
-    }
-    Ok(())
 }
 
 /// Adds diagnostics to others.

@@ -87,17 +87,17 @@ pub fn grammar_bytes<F: Files + AllocGlobal>(rt: &F, path: &str) -> io::Result<V
     first_bytes(rt, path, (LONGEST_FILE as u64).saturating_add(1))
 }
 
-/// Writes that a file can't be read, or that there is no memory, and gives the exit status.
-pub fn put_unread<W: Write>(out: &mut W, path: &str, error: &io::Error) -> io::Result<u8> {
-    match error.kind() {
-        ErrorKind::OutOfMemory => writeln!(out, "ydebug: no memory")?,
-        _ => writeln!(out, "ydebug: cannot read {path}")?,
+/// Writes that a file can't be read, and gives the exit status; only no memory stays an error.
+pub fn put_unread<W: Write>(out: &mut W, path: &str, error: io::Error) -> io::Result<u8> {
+    if error.kind() == ErrorKind::OutOfMemory {
+        return Err(error);
     }
+    writeln!(out, "ydebug: cannot read {path}")?;
     Ok(3)
 }
 
 /// Writes why the grammar file of these bytes isn't opened, with this column of its place, where
-/// there is one.
+/// there is one. No memory is an error, which each program tells in its own name.
 pub fn put_trouble<W: Write>(
     out: &mut W,
     alloc: Global,
@@ -106,7 +106,7 @@ pub fn put_trouble<W: Write>(
     column: Option<usize>,
 ) -> io::Result<()> {
     match trouble {
-        Trouble::Memory => writeln!(out, "ydebug: no memory"),
+        Trouble::Memory => Err(io::Error::from(ErrorKind::OutOfMemory)),
         Trouble::Grammar(refusal) => put_grammar_fault(out, alloc, file, refusal, column),
         Trouble::TooManySets => match words_of("B1") {
             Some(words) => put_whole(out, file.0, words),

@@ -1,9 +1,13 @@
 //! Files that a person names: read up to a limit, and written so that none is left cut off.
 //!
-//! `reading` reads them and says which are too long, `same` tells whether an output is an input,
-//! and `writing` writes a text beside its file and renames it when it is complete.
+//! `reading` reads them and says which are too long, `same` tells whether an output is an input or
+//! another output, and `writing` writes a text beside its file and renames it when it is complete.
+//! `steady` has a writer whose failure doesn't end the work, and `arguments` the arguments of a
+//! program.
 #![tactic(auto)]
 
+pub mod arguments;
 pub mod reading;
 pub mod same;
+pub mod steady;
 pub mod writing;

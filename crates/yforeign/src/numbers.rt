@@ -3,6 +3,9 @@
 /// The most that a token of `yacc` can have.
 pub const MOST: usize = 32_767;
 
+/// The most that a token of bison can have.
+pub const GREATEST: usize = 2_147_483_646;
+
 /// The number of `error`.
 pub const ERROR: usize = 256;
 

@@ -10,9 +10,10 @@ use yaccepted::opening::{Counted, File, open_counted};
 use ydiagnostics::format::{Format, NO_FORM, form_of};
 use ydiagnostics::report::{self as machine, run_report};
 use yfaults::opening::Opened;
-use yfiles::same::refused_output;
+use yfiles::same::refused_outputs;
 use yinput::grammars::GrammarFile;
-use yreports::report::{self, put_conflicts};
+use ylists::saving::are_refused;
+use yreports::report::{self, LIST_NAME, put_conflicts};
 use yreports::warnings::warnings_of;
 
 /// What is asked for: the conflicts of a grammar file, where to keep the lists, and which conflicts
@@ -177,18 +178,29 @@ impl<F: Files + AllocGlobal + Clone + Drop, R: Read, E: Write> Given<'_, F, R, E
         run_report(self.rt, asked, out)
     }
 
+    /// Whether what would be written is a file that is read: that is written on `errors`.
+    fn is_refused(&mut self, asked: Asked<'_>) -> io::Result<bool> {
+        let grammar = asked.grammar.path;
+        let output = if asked.update { asked.accept } else { None };
+        if refused_outputs(self.rt, &[output], &[grammar], &mut self.errors)?.is_some() {
+            return Ok(true);
+        }
+        let inputs = [grammar, asked.accept.unwrap_or(grammar)];
+        match asked.save {
+            Some(folder) => are_refused(self.rt, folder, LIST_NAME, &inputs, &mut self.errors),
+            None => Ok(false),
+        }
+    }
+
     /// Writes what is asked for, and gives the exit status: 0; 1 where the grammar or the list of
     /// accepted conflicts is refused, or with `strict` a conflict isn't accepted or there is a
-    /// warning; 2 where the list would be written over the grammar; 3 where a file can't be read or
+    /// warning; 2 where a file that is read would be written over; 3 where a file can't be read or
     /// written, memory runs out, or there are too many states.
     pub fn run_conflicts<W: Write>(&mut self, asked: Asked<'_>, out: &mut W) -> io::Result<u8> {
-        let output = if asked.update { asked.accept } else { None };
-        match refused_output(self.rt, output, &[asked.grammar.path], &mut self.errors)? {
-            Some(status) => Ok(status),
-            None => {
-                let format = form_of(asked.format).unwrap_or(Format::Text);
-                self.put_by(asked, format, out)
-            }
+        if self.is_refused(asked)? {
+            return Ok(2);
         }
+        let format = form_of(asked.format).unwrap_or(Format::Text);
+        self.put_by(asked, format, out)
     }
 }

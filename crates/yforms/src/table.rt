@@ -3,6 +3,7 @@
 use crate::given::Given;
 use std::io::{self, ErrorKind, Read, Write};
 use std::rt::Files;
+use yfiles::same::refused_outputs;
 use yfolder::Disk;
 use ygenerate::generate::{GenerateFault, generate};
 use yinput::grammars::{GrammarFile, open_file};
@@ -44,9 +45,27 @@ impl<F: Files + AllocGlobal, R: Read, E: Write> Given<'_, F, R, E> {
         }
     }
 
-    /// Writes the files, and gives the exit status: 0; 1 where the grammar is refused; 3 where a
-    /// file can't be read or written, memory runs out, or there are too many states.
+    /// The exit status where a file would be written over the grammar, or both are one file.
+    fn refused_files(&mut self, asked: Asked<'_>) -> io::Result<Option<u8>> {
+        let (alloc, prefix) = (self.rt.alloc(), asked.prefix);
+        let table = format!(in alloc; "{prefix}.tab")?;
+        let report = format!(in alloc; "{prefix}.output")?;
+        let report = if asked.report {
+            Some(report.as_str())
+        } else {
+            None
+        };
+        let outputs = [Some(table.as_str()), report];
+        refused_outputs(self.rt, &outputs, &[asked.grammar], &mut self.errors)
+    }
+
+    /// Writes the files, and gives the exit status: 0; 1 where the grammar is refused; 2 where a
+    /// file would be written over it, or both are one file; 3 where a file can't be read or
+    /// written, memory runs out, or there are too many states.
     pub fn run_table(&mut self, asked: Asked<'_>) -> io::Result<u8> {
+        if let Some(status) = self.refused_files(asked)? {
+            return Ok(status);
+        }
         let (rt, path, prefix) = (self.rt, asked.grammar, asked.prefix);
         match generate(rt.alloc(), &mut Disk::new(rt), path, prefix, asked.report) {
             Ok(counts) => put_conflicts(&mut self.errors, counts).map(|()| 0),

@@ -2,6 +2,7 @@
 
 use crate::applied::{Changed, applied};
 use crate::note::Note;
+use crate::numbers::Numbered;
 use crate::pieces::Pieces;
 use crate::refusal::{Refusal, Trouble};
 use crate::spelling::Spelling;
@@ -33,6 +34,10 @@ pub struct Imported {
     pub reduce_reduce: Option<Expected>,
     /// The ends that were taken out of bodies, in their order.
     pub ended: Vec<Ended>,
+    /// The numbers of tokens that `yacc` can't have, and that of `error`.
+    pub numbers: Vec<Numbered>,
+    /// The greatest number that the file gives a token.
+    pub greatest: usize,
     /// The lexemes of the file, up to its second mark.
     pub lexemes: Vec<Lexeme>,
     /// How its symbols are spelled in the text.
@@ -43,8 +48,8 @@ impl Drop for Imported {
     // A call in each owner, which keeps their proofs short.
     fn drop(self) {
         let_go!(self: Imported {
-            text, pieces, notes, texts, levels, shift_reduce, reduce_reduce, ended, lexemes,
-            spelling
+            text, pieces, notes, texts, levels, shift_reduce, reduce_reduce, ended, numbers,
+            greatest, lexemes, spelling
         });
     }
 }
@@ -78,6 +83,7 @@ impl Work<'_> {
         for group in &groups {
             self.import_group(group);
         }
+        self.list_loners(&groups)?;
         Ok(())
     }
 
@@ -111,6 +117,8 @@ impl Work<'_> {
             shift_reduce: self.shift_reduce,
             reduce_reduce: self.reduce_reduce,
             ended: mem::replace(&mut self.ended, Vec::new(alloc)),
+            numbers: mem::replace(&mut self.numbers, Vec::new(alloc)),
+            greatest: self.greatest,
             lexemes,
             spelling: Spelling::new(survey, made),
         }

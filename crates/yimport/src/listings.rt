@@ -1,11 +1,12 @@
 //! Lists of tokens.
 
 use crate::note::Reason;
+use crate::numbers::Numbered;
 use crate::refusal::Refusal;
 use crate::symbols::Work;
 use yforeign::directive::{Directive, is_symbol};
 use yforeign::lexeme::{Kind, Lexeme};
-use yforeign::numbers::{ERROR, MOST, is_hexadecimal, number_of};
+use yforeign::numbers::{is_hexadecimal, number_of};
 use yforeign::survey::{is_macro, is_text};
 use ylexemes::bytes::{is_name_byte, is_name_start};
 
@@ -94,13 +95,13 @@ impl Work<'_> {
         };
         let text = lexeme.text(self.source);
         let number = number_of(text);
-        let is_error = matches!(token.text(self.source), b"error" | b"YYerror");
         if self.is_end(&token) {
-            self.edits.remove(lexeme);
-        } else if number > MOST {
-            self.edits.take_out(lexeme, Reason::LargeNumber);
-        } else if number == ERROR && !is_error {
-            self.edits.take_out(lexeme, Reason::ErrorNumber);
+            return self.edits.remove(lexeme);
+        }
+        let reason = self.reason_against_number(&token, number);
+        self.note_number(Numbered { token, number }, lexeme, reason.is_none());
+        if let Some(reason) = reason {
+            self.edits.take_out(lexeme, reason);
         } else if is_hexadecimal(text) {
             let start = self.edits.texts.len();
             let mut digits = itoa::Buffer::new();

@@ -20,6 +20,9 @@ pub enum Refusal {
     SecondPrec,
     NotEmpty,
     NameTaken,
+    TokenNonterminal,
+    NumberTooLarge,
+    NumberTaken,
 }
 
 /// What is refused, and where it stands: a part without bytes, where it is no lexeme.
@@ -68,6 +71,9 @@ impl Refusal {
             }
             Refusal::SecondPrec => "a rule has one %prec",
             Refusal::NotEmpty => "this body isn't empty",
+            Refusal::NumberTooLarge => "numbers of tokens end at 2,147,483,646",
+            Refusal::NumberTaken => "this token has another number, or another token has this one",
+            Refusal::TokenNonterminal => "it is listed as a token too",
             Refusal::NameTaken => "yacc's names have no dashes, and the name without them is taken",
         }
     }

@@ -3,6 +3,7 @@
 use crate::applied::Changed;
 use crate::edits::Edits;
 use crate::note::Reason;
+use crate::numbers::Numbered;
 use crate::refusal::{Refusal, Trouble};
 use crate::spelling::{Made, made_name, other_name, unbroken};
 use std::alloc::{AllocError, Global};
@@ -10,7 +11,7 @@ use std::collections::HashMap;
 use yforeign::lexeme::{Lexeme, Span};
 use yforeign::survey::{Survey, inside, is_text};
 use ysymbols::let_go;
-use ysymbols::names::is_among;
+use ysymbols::names::{SymbolTable, is_among};
 
 /// A number of conflicts that a file expects, and what says so.
 #[derive(Clone, Copy, Drop)]
@@ -44,6 +45,12 @@ pub struct Work<'a> {
     pub made: HashMap<Vec<u8>, Made>,
     /// The last of these numbers.
     last_made: usize,
+    /// The numbers of tokens that `yacc` can't have, and that of `error`.
+    pub numbers: Vec<Numbered>,
+    /// The tokens that have other numbers.
+    pub numbered: SymbolTable,
+    /// The greatest number that the file gives.
+    pub greatest: usize,
     /// The names that have no dashes any more, and where one stands that became each.
     renamed: HashMap<Vec<u8>, Lexeme>,
     /// Where the `%precedence` stands for each level that comes from one.
@@ -68,8 +75,8 @@ impl Drop for Work<'_> {
     // A call in each owner, which keeps their proofs short.
     fn drop(self) {
         let_go!(self: Work {
-            alloc, source, survey, edits, made, last_made, renamed, levels, shift_reduce,
-            reduce_reduce, bodies, ended, left, has_start, changed
+            alloc, source, survey, edits, made, last_made, numbers, numbered, greatest, renamed,
+            levels, shift_reduce, reduce_reduce, bodies, ended, left, has_start, changed
         });
     }
 }
@@ -84,6 +91,9 @@ impl<'a> Work<'a> {
             edits: Edits::new(alloc, source),
             made: HashMap::new(alloc),
             last_made: 0,
+            numbers: Vec::new(alloc),
+            numbered: SymbolTable::new(alloc),
+            greatest: 0,
             renamed: HashMap::new(alloc),
             levels: Vec::new(alloc),
             shift_reduce: None,

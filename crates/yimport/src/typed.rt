@@ -68,9 +68,22 @@ impl Work<'_> {
         }
     }
 
+    /// Refuses names of tokens in a list of what are none.
+    fn refuse_tokens(&mut self, rest: &[Lexeme]) {
+        for lexeme in rest {
+            let name = lexeme.text(self.source);
+            if lexeme.kind == Kind::Name && is_among(&self.survey.tokens, name) {
+                self.edits.refuse(Refusal::TokenNonterminal, lexeme);
+            }
+        }
+    }
+
     /// Takes in a list of nonterminals.
     pub fn import_types(&mut self, directive: Directive, word: &Lexeme, rest: &[Lexeme]) {
         self.refuse_others(rest, directive);
+        if directive == Directive::Nterm {
+            self.refuse_tokens(rest);
+        }
         if !self.has_nonterminal(rest) {
             return self.take_all(word, rest, Reason::NoType);
         }

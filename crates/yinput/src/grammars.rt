@@ -82,7 +82,7 @@ pub fn open_with_text<F: Files + AllocGlobal, E: Write>(
     let (alloc, path) = (rt.alloc(), file.path);
     let bytes = match grammar_bytes(rt, path) {
         Ok(bytes) => bytes,
-        Err(error) => return put_unread(errors, path, &error).map(Err),
+        Err(error) => return put_unread(errors, path, error).map(Err),
     };
     if !file.bison {
         return match open_text(alloc, file.source(&bytes), errors)? {

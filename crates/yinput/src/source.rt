@@ -5,7 +5,7 @@ use crate::parse::Parse;
 use std::io::{self, Write};
 use std::rt::Files;
 use yfiles::reading::Limited;
-use yfiles::same::is_same_file;
+use yfiles::same::is_among;
 
 /// The files of a parse.
 #[derive(Drop)]
@@ -35,13 +35,11 @@ impl<F: Files + AllocGlobal> Source<'_, F> {
 
     /// Whether a path means one of the files, which then isn't written over. A tokens file isn't
     /// guarded: tokens may be written over those that they come from.
-    pub fn guards(&self, path: &str) -> bool {
-        let is_same = |other: &str| is_same_file(self.rt, path, other);
+    pub fn guards(&self, path: &str) -> io::Result<bool> {
+        let grammar = self.files.grammar.path;
         match self.files.spec {
-            Some(spec) => {
-                is_same(self.files.grammar.path) || is_same(spec) || is_same(self.input.path)
-            }
-            None => is_same(self.files.grammar.path),
+            Some(spec) => is_among(self.rt, path, &[grammar, spec, self.input.path]),
+            None => is_among(self.rt, path, &[grammar]),
         }
     }
 }

@@ -5,7 +5,7 @@ use std::fs::{self, DirEntry};
 use std::io::{self, ErrorKind, Write};
 use std::rt::Files;
 use yexplain::text::{Name, Names};
-use yfiles::same::is_same_file;
+use yfiles::same::{Clash, is_among, name_in};
 use yfiles::writing::write_over;
 use ysymbols::{Grammar, Sym};
 use yview::page::Page;
@@ -17,9 +17,6 @@ pub struct Folder<'a, F> {
     pub rt: &'a F,
     /// The path of the folder.
     pub path: Option<&'a str>,
-    /// The paths of the grammar file and of its SPEC, where there is one, which are neither removed
-    /// nor written over.
-    pub inputs: (&'a str, Option<&'a str>),
     /// What stands before and after the numbers in the names of the files.
     pub name: (&'a str, &'a str),
     /// What couldn't be written; nothing is kept after that.
@@ -80,24 +77,82 @@ fn is_of_list((front, end): (&str, &str), name: &str) -> bool {
     }
 }
 
-/// Whether a path means one of the files that are read.
-fn is_input<F: Files>(rt: &F, (grammar, spec): (&str, Option<&str>), path: &str) -> bool {
-    is_same_file(rt, path, grammar) || spec.map_or(false, |spec| is_same_file(rt, path, spec))
+/// The path of the first file in a folder that has the name of a list and is an input.
+fn input_in<F: Files + AllocGlobal + Clone + Drop>(
+    rt: &F,
+    folder: &str,
+    name: (&str, &str),
+    inputs: &[&str],
+) -> io::Result<Option<String>> {
+    // the lists of a folder that can't be read aren't removed either
+    let Ok(entries) = fs::read_dir(rt, folder) else {
+        return Ok(None);
+    };
+    for entry in entries {
+        match entry {
+            Ok(entry) if is_of_list(name, entry.file_name()) => {
+                let path = entry.path();
+                if is_among(rt, path.as_str(), inputs)? {
+                    return String::from_str(rt.alloc(), path.as_str())
+                        .map(Some)
+                        .map_err(io::Error::from);
+                }
+            }
+            Err(error) if error.kind() == ErrorKind::OutOfMemory => return Err(error),
+            _ => {}
+        }
+    }
+    Ok(None)
+}
+
+/// The first input that would have the name of a list in a folder, also one that isn't there yet.
+fn named_as_list<'a, F: Files + AllocGlobal>(
+    rt: &F,
+    folder: &str,
+    name: (&str, &str),
+    inputs: &[&'a str],
+) -> io::Result<Option<&'a str>> {
+    for input in inputs {
+        if let Some(own) = name_in(rt, input, folder)? {
+            if is_of_list(name, &own) {
+                return Ok(Some(*input));
+            }
+        }
+    }
+    Ok(None)
+}
+
+/// Whether lists aren't kept in a folder, since one would have the place of an input: that is
+/// written.
+pub fn are_refused<F: Files + AllocGlobal + Clone + Drop, E: Write>(
+    rt: &F,
+    folder: &str,
+    name: (&str, &str),
+    inputs: &[&str],
+    errors: &mut E,
+) -> io::Result<bool> {
+    let found = input_in(rt, folder, name, inputs)?;
+    let path = match &found {
+        Some(path) => Some(path.as_str()),
+        None => named_as_list(rt, folder, name, inputs)?,
+    };
+    if let Some(path) = path {
+        let clash = Clash::Input(path);
+        writeln!(errors, "ydebug: {clash}")?;
+    }
+    Ok(path.is_some())
 }
 
 /// Removes a file of a folder, where its name is that of a list, and says whether that was done
 /// where it had to be.
 fn is_cleared<F: Files + Drop>(
     rt: &F,
-    inputs: (&str, Option<&str>),
     name: (&str, &str),
     entry: io::Result<DirEntry<F, Global>>,
 ) -> io::Result<bool> {
     match entry {
         Ok(entry) if is_of_list(name, entry.file_name()) => {
-            let path = entry.path();
-            let is_free = !is_input(rt, inputs, path.as_str());
-            Ok(is_free && is_written(fs::remove_file(rt, path))?)
+            is_written(fs::remove_file(rt, entry.path()))
         }
         Err(error) if error.kind() == ErrorKind::OutOfMemory => Err(error),
         _ => Ok(true),
@@ -108,7 +163,6 @@ fn is_cleared<F: Files + Drop>(
 /// there has none.
 fn are_cleared<F: Files + AllocGlobal + Clone + Drop>(
     rt: &F,
-    inputs: (&str, Option<&str>),
     name: (&str, &str),
     path: &str,
 ) -> io::Result<bool> {
@@ -122,7 +176,7 @@ fn are_cleared<F: Files + AllocGlobal + Clone + Drop>(
     };
     let mut are_cleared = true;
     for entry in entries {
-        are_cleared = is_cleared(rt, inputs, name, entry)? && are_cleared;
+        are_cleared = is_cleared(rt, name, entry)? && are_cleared;
     }
     Ok(are_cleared)
 }
@@ -134,7 +188,7 @@ impl<F: Files + AllocGlobal + Clone + Drop> Folder<'_, F> {
         let Some(path) = self.path else {
             return Ok(());
         };
-        if !are_cleared(self.rt, self.inputs, self.name, path)? {
+        if !are_cleared(self.rt, self.name, path)? {
             self.failed = Some(String::from_str(self.rt.alloc(), path)?);
         }
         Ok(())

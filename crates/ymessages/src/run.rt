@@ -15,7 +15,7 @@ use yexplain::reads::{Made, grammar_of};
 use yexplain::text::{Name, Names};
 use yfaults::opening::Opened;
 use yfiles::reading::Limited;
-use yfiles::same::refused_output;
+use yfiles::same::refused_outputs;
 use yfiles::writing::{put_asked, put_file};
 use yinput::language::{Language, LanguageFiles};
 use yinput::spelled::Spelled;
@@ -346,9 +346,9 @@ fn refused<F: Files + AllocGlobal, E: Write>(
     let spec = asked.files.spec.unwrap_or(grammar);
     match asked.messages {
         Some(file) if !asked.update => {
-            refused_output(rt, output, &[grammar, spec, file.path], errors)
+            refused_outputs(rt, &[output], &[grammar, spec, file.path], errors)
         }
-        _ => refused_output(rt, output, &[grammar, spec], errors),
+        _ => refused_outputs(rt, &[output], &[grammar, spec], errors),
     }
 }
 

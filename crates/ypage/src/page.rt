@@ -12,7 +12,7 @@ use std::io::{self, Write};
 use std::rt::Files;
 use yexplain::reads::Made;
 use yfaults::opening::Opened;
-use yfiles::same::refused_output;
+use yfiles::same::refused_outputs;
 use yfiles::writing::put_output;
 use yinput::Parse;
 use yinput::source::Source;
@@ -171,7 +171,7 @@ pub fn run_page<F: Files + AllocGlobal, W: Write, E: Write>(
         source.input.path,
         source.files.spec.unwrap_or(grammar),
     ];
-    if let Some(status) = refused_output(source.rt, asked.file, &inputs, errors)? {
+    if let Some(status) = refused_outputs(source.rt, &[asked.file], &inputs, errors)? {
         return Ok(status);
     }
     let Part { from, to } = asked.part;

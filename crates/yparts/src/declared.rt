@@ -1,11 +1,12 @@
 //! Declarations of a foreign file.
 
 use crate::bodies::inner;
-use crate::gather::Gather;
+use crate::gather::{Defined, Gather};
 use crate::options::{Errors, Header, Purity};
 use crate::params::{is_done, param_at};
 use crate::parts::{Block, Care, Deed, Piece, Taker, Target, Whose};
 use crate::refusal::{Refusal, Trouble};
+use crate::versions::required;
 use crate::words::{Word, target_of, word_of};
 use yexplain::reads::Made;
 use yforeign::directive::{is_symbol, is_word};
@@ -130,6 +131,10 @@ impl<'a> Gather<'a, '_> {
         };
         for lexeme in rest {
             if let Some(whose) = self.whose(lexeme)? {
+                let mut cares = self.parts.cares.iter();
+                if cares.any(|care| care.deed == deed && care.whose == whose) {
+                    self.second = self.second.or(Some(piece.at));
+                }
                 self.parts.cares.push(Care { deed, whose, piece })?;
             }
         }
@@ -151,9 +156,32 @@ impl<'a> Gather<'a, '_> {
         };
         let at = name.span.from;
         let name = name.text(self.source);
+        self.note_defined(Defined { name, value, at })?;
         match self.parts.options.define(name, value, is_code) {
             Ok(()) => Ok(()),
             Err(refusal) => Err(Trouble::Refused(refusal, at)),
+        }
+    }
+
+    /// Notes a variable, which may have the same value before.
+    fn note_defined(&mut self, defined: Defined<'a>) -> Result<(), Trouble> {
+        for before in &self.defined {
+            if before.name == defined.name && before.value != defined.value {
+                return Err(Trouble::Refused(Refusal::Redefined, defined.at));
+            }
+        }
+        self.defined.push(defined)?;
+        Ok(())
+    }
+
+    /// Refuses a version that is later than the one.
+    fn take_version(&self, rest: &[Lexeme]) -> Result<(), Trouble> {
+        let (Some(version), Some(lexeme)) = (self.string(rest), rest.first()) else {
+            return Ok(());
+        };
+        match required(version) {
+            Ok(()) => Ok(()),
+            Err(refusal) => Err(Trouble::Refused(refusal, lexeme.span.from)),
         }
     }
 
@@ -202,6 +230,7 @@ impl<'a> Gather<'a, '_> {
             Word::Define => self.take_define(rest)?,
             Word::Language => self.only(rest, "c", Refusal::Language)?,
             Word::Skeleton => self.only(rest, "yacc.c", Refusal::Skeleton)?,
+            Word::Require => self.take_version(rest)?,
             word => self.take_option(word, rest),
         }
         Ok(())

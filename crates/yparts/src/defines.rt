@@ -21,6 +21,7 @@ enum Variable {
     Include,
     Tables,
     Push,
+    Lac,
     /// It changes nothing: errors are found where they are without it.
     Idle,
 }
@@ -30,7 +31,7 @@ const VARIABLES: [(&str, Variable); 23] = [
     ("api.pure", Variable::Pure),
     ("parse.error", Variable::Errors),
     ("parse.trace", Variable::Trace),
-    ("parse.lac", Variable::Idle),
+    ("parse.lac", Variable::Lac),
     ("parse.assert", Variable::Idle),
     ("locations", Variable::Locations),
     ("api.prefix", Variable::ApiPrefix),
@@ -88,6 +89,17 @@ fn purity(value: &[u8]) -> Result<Purity, Refusal> {
     })
 }
 
+/// Whether to look ahead before an error.
+fn lac(value: &[u8]) -> Result<bool, Refusal> {
+    if is(value, "full") {
+        Ok(true)
+    } else if is(value, "none") {
+        Ok(false)
+    } else {
+        Err(Refusal::Value)
+    }
+}
+
 /// What is said of an error.
 fn errors(value: &[u8]) -> Result<Errors, Refusal> {
     let found = ERRORS.iter().find(|(word, _)| is(value, word));
@@ -143,6 +155,7 @@ impl<'a> Options<'a> {
             Variable::Include => self.include = Some(value),
             Variable::Tables => only(value, "lalr", Refusal::Tables)?,
             Variable::Push => only(value, "pull", Refusal::Push)?,
+            Variable::Lac => self.lac = lac(value)?,
             Variable::Idle => {}
         }
         Ok(())

@@ -1,8 +1,8 @@
 //! The parts of a file of byacc or bison.
 
 use crate::gather::Gather;
-use crate::parts::{Parts, Piece};
-use crate::refusal::Trouble;
+use crate::parts::{Parts, Piece, Target};
+use crate::refusal::{Refusal, Trouble};
 use std::alloc::Global;
 use std::mem;
 use yexplain::lines::is_inner;
@@ -80,12 +80,31 @@ impl<'a> Gather<'a, '_> {
         }
     }
 
+    /// Refuses what bison doesn't take beside each other, in a file of bison.
+    fn refuse_doubles(&self) -> Result<(), Trouble> {
+        let mut blocks = self.parts.blocks.iter();
+        let has_union = blocks.any(|block| block.target == Target::Union);
+        for defined in &self.defined {
+            if has_union && defined.name == b"api.value.type".as_slice() {
+                return Err(Trouble::Refused(Refusal::Values, defined.at));
+            }
+        }
+        match self.second {
+            Some(at) if self.parts.options.is_bison => {
+                Err(Trouble::Refused(Refusal::SecondCare, at))
+            }
+            _ => Ok(()),
+        }
+    }
+
     /// Takes in all groups.
     fn take_all(&mut self, groups: &[Group<'_>]) -> Result<(), Trouble> {
         for group in groups {
             self.take(group)?;
         }
+        self.refuse_doubles()?;
         self.label_all()?;
+        self.number_all()?;
         let actions = mem::replace(&mut self.actions, Vec::new(self.alloc));
         self.parts.set_actions(self.grammar, &actions)?;
         self.tag_actions();
@@ -93,12 +112,14 @@ impl<'a> Gather<'a, '_> {
     }
 }
 
-/// The parts of a file that became a text of this grammar by this import.
+/// The parts of a file that became a text of this grammar by this import; with `is_bison` it is
+/// one of bison, whatever it has.
 pub fn parts_of<'a, 'b>(
     alloc: Global,
     source: &'a [u8],
     grammar: &'b Grammar,
     imported: &'b Imported,
+    is_bison: bool,
 ) -> Result<Parts<'a>, Trouble> {
     let groups = groups_of(alloc, source, &imported.lexemes)?;
     let mut gather = Gather {
@@ -110,7 +131,10 @@ pub fn parts_of<'a, 'b>(
         actions: Vec::new(alloc),
         action_tags: Vec::new(alloc),
         left: source.get(..0).unwrap_or(&[]),
+        defined: Vec::new(alloc),
+        second: None,
     };
+    gather.parts.options.is_bison = is_bison;
     gather.take_all(&groups)?;
     let empty = Parts::new(alloc, 0)?;
     Ok(mem::replace(&mut gather.parts, empty))

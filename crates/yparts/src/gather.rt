@@ -1,6 +1,6 @@
 //! The parts of a foreign file while they are gathered.
 
-use crate::parts::{Parts, Piece};
+use crate::parts::{Numbered, Parts, Piece};
 use crate::words::is_only_bison;
 use std::alloc::Global;
 use yexplain::reads::Made;
@@ -15,6 +15,17 @@ pub fn piece_of<'a>(source: &'a [u8], lexeme: &Lexeme) -> Piece<'a> {
         at: lexeme.span.from,
         line: lexeme.span.line,
     }
+}
+
+/// A variable that the file defines.
+#[derive(Clone, Copy)]
+pub struct Defined<'a> {
+    /// Its name.
+    pub name: &'a [u8],
+    /// Its value.
+    pub value: &'a [u8],
+    /// Where it is defined.
+    pub at: usize,
 }
 
 /// A file whose parts are gathered.
@@ -35,13 +46,17 @@ pub struct Gather<'a, 'b> {
     pub action_tags: Vec<Option<&'a [u8]>>,
     /// The name of the left side.
     pub left: &'a [u8],
+    /// The variables that the file defines.
+    pub defined: Vec<Defined<'a>>,
+    /// Where code stands for values that had some.
+    pub second: Option<usize>,
 }
 
 impl Drop for Gather<'_, '_> {
     // A call in each owner, which keeps their proofs short.
     fn drop(self) {
         let_go!(self: Gather {
-            alloc, source, grammar, imported, parts, actions, action_tags, left
+            alloc, source, grammar, imported, parts, actions, action_tags, left, defined, second
         });
     }
 }
@@ -89,6 +104,18 @@ impl<'a, 'b> Gather<'a, 'b> {
         let name = lexeme.text(self.source);
         if lexeme.kind == Kind::Name && !self.parts.ends.iter().any(|end| *end == name) {
             self.parts.ends.push(name)?;
+        }
+        Ok(())
+    }
+
+    /// Notes the numbers of tokens that the grammar can't have.
+    pub fn number_all(&mut self) -> Made<()> {
+        self.parts.greatest = self.imported.greatest;
+        for given in &self.imported.numbers {
+            let number = given.number;
+            if let Some(token) = self.symbol(&given.token)? {
+                self.parts.numbers.push(Numbered { token, number })?;
+            }
         }
         Ok(())
     }

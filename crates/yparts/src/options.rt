@@ -89,6 +89,8 @@ pub struct Options<'a> {
     pub location_type: Option<&'a [u8]>,
     /// What the parser includes for its header.
     pub include: Option<&'a [u8]>,
+    /// Whether `parse.lac` asks to look ahead before an error.
+    pub lac: bool,
 }
 
 impl Options<'_> {
@@ -115,6 +117,7 @@ impl Options<'_> {
             union_name: None,
             location_type: None,
             include: None,
+            lac: false,
         }
     }
 }

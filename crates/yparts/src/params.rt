@@ -1,48 +1,120 @@
 //! Lists of parameters, between braces and with commas between them.
 
 use crate::parts::{Param, Taker};
-use ylexemes::bytes::{is_blank, is_name_byte};
+use yforeign::runs::line_length;
+use ylexemes::bytes::{after_comment, is_blank};
 
-/// What is left of a declaration without the brackets at its end.
-fn without_brackets(text: &[u8]) -> &[u8] {
-    let text = text.trim_ascii_end();
-    if text.last() != Some(&b']') {
-        return text;
-    }
-    let open = text.iter().position(|b| *b == b'[');
-    text.get(..open.unwrap_or(0))
-        .unwrap_or(&[])
-        .trim_ascii_end()
+/// Whether a byte can stand in a name of C.
+fn is_in_name(b: u8) -> bool {
+    b.is_ascii_alphanumeric() || b == b'_'
 }
 
-/// The name that a declaration ends with, where it ends with one.
+/// Whether a piece of a declaration is a comment.
+pub fn is_comment(piece: &[u8]) -> bool {
+    matches!(piece, [b'/', b'/' | b'*', ..])
+}
+
+/// How many bytes the comment, the name or number, or the byte at the front has.
+pub fn piece_length(text: &[u8]) -> usize {
+    match text {
+        [b'/', b'*', ..] => {
+            let after = after_comment(text).map_or(0, |rest| rest.len());
+            text.len().saturating_sub(after)
+        }
+        [b'/', b'/', ..] => line_length(text),
+        [first, ..] if is_in_name(*first) => {
+            let end = text.iter().position(|b| !is_in_name(*b));
+            end.unwrap_or(text.len())
+        }
+        _ => 1,
+    }
+}
+
+/// Where a walk over a declaration is.
+#[derive(Clone, Copy)]
+struct Walk<'a> {
+    /// The last name outside of square brackets.
+    name: Option<&'a [u8]>,
+    /// How many square brackets are open.
+    brackets: usize,
+    /// Whether a parenthesis was opened, and nothing came after it.
+    opened: bool,
+    /// Whether that of a pointer to a function was opened, in which its name stands.
+    pointer: bool,
+    /// Whether that name came, and the parenthesis behind it.
+    found: bool,
+}
+
+impl<'a> Walk<'a> {
+    /// Takes in a piece that is no comment and no blank.
+    fn take(&mut self, piece: &'a [u8], first: u8) {
+        match first {
+            b'[' => self.brackets = self.brackets.saturating_add(1),
+            b']' => self.brackets = self.brackets.saturating_sub(1),
+            b'*' if self.opened => {
+                self.pointer = true;
+                self.name = None;
+            }
+            b')' => self.found = self.pointer && self.name.is_some(),
+            _ if is_in_name(first) && !first.is_ascii_digit() && self.brackets == 0 => {
+                self.name = Some(piece);
+            }
+            _ => {}
+        }
+        self.opened = first == b'(';
+    }
+}
+
+/// The name that is declared, where there is one: the last one as bison has it, but that of a
+/// pointer to a function, and outside of comments.
 fn name_of(declaration: &[u8]) -> Option<&[u8]> {
-    let text = without_brackets(declaration);
-    let before = text.iter().rposition(|b| !is_name_byte(*b));
-    let from = before.map_or(0, |at| at.saturating_add(1));
-    let name = text.get(from..).unwrap_or(&[]);
-    let is_name = name.first().map_or(false, |first| !first.is_ascii_digit());
-    is_name.then_some(name)
+    let mut walk = Walk {
+        name: None,
+        brackets: 0,
+        opened: false,
+        pointer: false,
+        found: false,
+    };
+    let mut rest = declaration;
+    // each piece has a byte at least
+    for _ in declaration {
+        let Some(first) = rest.first() else {
+            break;
+        };
+        let (piece, after) = rest.split_at(piece_length(rest).min(rest.len()));
+        if !is_comment(piece) && !is_blank(*first) {
+            walk.take(piece, *first);
+        }
+        if walk.found {
+            break;
+        }
+        rest = after;
+    }
+    walk.name
 }
 
 /// How many bytes the first declaration of a list has.
-fn first_len(text: &[u8]) -> usize {
+fn first_length(text: &[u8]) -> usize {
     let mut depth: usize = 0;
-    for (at, byte) in text.iter().enumerate() {
-        match *byte {
-            b'(' => depth = depth.saturating_add(1),
-            b')' => depth = depth.saturating_sub(1),
-            b',' if depth == 0 => return at,
-            _ => {}
+    let mut at: usize = 0;
+    for _ in text {
+        let rest = text.get(at..).unwrap_or(&[]);
+        match rest.first() {
+            None => break,
+            Some(b',') if depth == 0 => break,
+            Some(b'(' | b'[' | b'<' | b'{') => depth = depth.saturating_add(1),
+            Some(b')' | b']' | b'>' | b'}') => depth = depth.saturating_sub(1),
+            Some(_) => {}
         }
+        at = at.saturating_add(piece_length(rest));
     }
-    text.len()
+    at
 }
 
 /// The first parameter of a list that isn't blank, and what comes after it; `None` where it has no
 /// name.
 pub fn param_at(taker: Taker, text: &[u8]) -> Option<(Param<'_>, &[u8])> {
-    let length = first_len(text);
+    let length = first_length(text);
     let declaration = text.get(..length).unwrap_or(text).trim_ascii();
     let rest = text.get(length.saturating_add(1)..).unwrap_or(&[]);
     let name = name_of(declaration)?;

@@ -131,6 +131,15 @@ pub struct Param<'a> {
     pub name: &'a [u8],
 }
 
+/// A number that a file gives a token.
+#[derive(Clone, Copy, Drop)]
+pub struct Numbered {
+    /// The token.
+    pub token: Sym,
+    /// The number.
+    pub number: usize,
+}
+
 /// All that a file says of its parser beside its tables.
 #[derive(Drop)]
 pub struct Parts<'a> {
@@ -150,6 +159,10 @@ pub struct Parts<'a> {
     pub cares: Vec<Care<'a>>,
     /// The parameters, in their order.
     pub params: Vec<Param<'a>>,
+    /// The numbers of tokens that the file gives, and the grammar can't have.
+    pub numbers: Vec<Numbered>,
+    /// The greatest number that the file gives a token.
+    pub greatest: usize,
     /// What stands after the second mark.
     pub tail: Option<Piece<'a>>,
     /// Wishes.
@@ -175,6 +188,8 @@ impl<'a> Parts<'a> {
             bodies: Vec::new(alloc),
             cares: Vec::new(alloc),
             params: Vec::new(alloc),
+            numbers: Vec::new(alloc),
+            greatest: 0,
             tail: None,
             options: Options::none(),
         })

@@ -25,6 +25,16 @@ pub enum Refusal {
     Parameter,
     /// A place for code that isn't known.
     Qualifier,
+    /// A later bison than the one whose files are taken.
+    Later,
+    /// No version.
+    Version,
+    /// `%union` beside a variable for the type of values.
+    Values,
+    /// Another value for a variable.
+    Redefined,
+    /// Further code for the same values.
+    SecondCare,
 }
 
 impl Refusal {
@@ -39,8 +49,13 @@ impl Refusal {
             Refusal::Numbers => "the numbers of tokens are those that yacc gives them",
             Refusal::Variable => "this variable isn't known",
             Refusal::Value => "the variable has no such value",
-            Refusal::Parameter => "a parameter ends with its name",
+            Refusal::Parameter => "a parameter has a name",
             Refusal::Qualifier => "code has no such place",
+            Refusal::Later => "it requires a later bison than 3.8.2",
+            Refusal::Version => "no version of bison is spelled so",
+            Refusal::Values => "a file has either %union or api.value.type",
+            Refusal::Redefined => "the variable has another value already",
+            Refusal::SecondCare => "these values have such code already",
         }
     }
 }

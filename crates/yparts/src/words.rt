@@ -44,12 +44,14 @@ pub enum Word {
     Language,
     /// `%skeleton`.
     Skeleton,
+    /// `%require`.
+    Require,
     /// Nothing.
     Nothing,
 }
 
 /// The directives that tell something.
-const WORDS: [(&str, Word); 24] = [
+const WORDS: [(&str, Word); 25] = [
     ("code", Word::Code),
     ("initial-action", Word::Initial),
     ("parse-param", Word::Params(Taker::Parse)),
@@ -74,6 +76,7 @@ const WORDS: [(&str, Word); 24] = [
     ("name-prefix", Word::NamePrefix),
     ("language", Word::Language),
     ("skeleton", Word::Skeleton),
+    ("require", Word::Require),
 ];
 
 /// The directives of byacc 2.0.

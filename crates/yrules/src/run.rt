@@ -14,7 +14,7 @@ use std::io::{self, ErrorKind, Write};
 use std::rt::Files;
 use yexplain::reads::grammar_of;
 use yfaults::opening::Opened;
-use yfiles::same::{is_same_file, refused_output};
+use yfiles::same::refused_outputs;
 use yfiles::writing::put_asked;
 use yinput::grammars::{GrammarFile, GrammarText, open_with_text};
 use yview::digest::digest_of;
@@ -101,30 +101,6 @@ fn put_open<F: Files + AllocGlobal, W: Write, E: Write>(
     }
 }
 
-/// Writes that an output can't be written, where it is the grammar file or the other output, and
-/// gives the exit status.
-fn refused_outputs<F: Files, E: Write>(
-    rt: &F,
-    asked: Asked<'_>,
-    errors: &mut E,
-) -> io::Result<Option<u8>> {
-    let Asked {
-        grammar,
-        header,
-        python,
-    } = asked;
-    if let Some(status) = refused_output(rt, header, &[grammar.path], errors)? {
-        return Ok(Some(status));
-    }
-    match header {
-        Some(header) if python.map_or(false, |path| is_same_file(rt, path, header)) => {
-            writeln!(errors, "ydebug: {header} can't be both outputs")?;
-            Ok(Some(2))
-        }
-        _ => refused_output(rt, python, &[grammar.path], errors),
-    }
-}
-
 /// Writes what is asked for, and gives the exit status: 0; 1 where the file or a name in it is
 /// refused; 2 where an output is the file itself, or both are one; 3 where a file can't be read or
 /// written, memory runs out, or there are too many states.
@@ -134,7 +110,8 @@ pub fn run_rules<F: Files + AllocGlobal, W: Write, E: Write>(
     out: &mut W,
     errors: &mut E,
 ) -> io::Result<u8> {
-    if let Some(status) = refused_outputs(rt, asked, errors)? {
+    let outputs = [asked.header, asked.python];
+    if let Some(status) = refused_outputs(rt, &outputs, &[asked.grammar.path], errors)? {
         return Ok(status);
     }
     match open_with_text(rt, asked.grammar, errors)? {

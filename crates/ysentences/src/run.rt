@@ -15,9 +15,10 @@ use ycover::cells::Cells;
 use ycover::elements::{Elements, Kind};
 use yexplain::reads::{Made, grammar_of, set};
 use yfaults::opening::Opened;
+use yfiles::steady::Steady;
 use yinput::language::{Language, LanguageFiles};
 use ylex::writer::Writer;
-use ylists::saving::{Folder, put_failed};
+use ylists::saving::{Folder, are_refused, put_failed};
 use ytables::Tables;
 
 /// Sentences that are drawn.
@@ -59,6 +60,31 @@ impl Asked<'_> {
         }
     }
 
+    /// What the names of all files end with.
+    fn ending(self) -> &'static str {
+        match self.files.spec {
+            Some(_) => ".txt",
+            None => ".tokens",
+        }
+    }
+
+    /// Whether a list would have the place of a file that is read: that is written.
+    fn is_refused<F: Files + AllocGlobal + Clone + Drop, E: Write>(
+        self,
+        rt: &F,
+        errors: &mut E,
+    ) -> io::Result<bool> {
+        let Some(folder) = self.save else {
+            return Ok(false);
+        };
+        let (grammar, end) = (self.files.grammar.path, self.ending());
+        let inputs = [grammar, self.files.spec.unwrap_or(grammar)];
+        Ok(
+            are_refused(rt, folder, (self.front(), end), &inputs, errors)?
+                || are_refused(rt, folder, (NEAR, end), &inputs, errors)?,
+        )
+    }
+
     /// What changes sentences, where that is wanted.
     fn near_in(
         self,
@@ -74,17 +100,15 @@ impl Asked<'_> {
     }
 }
 
+/// What the names of the files of lists that are near to sentences begin with.
+const NEAR: &str = "near-";
+
 /// A folder for lists, in which the names of files begin so.
 fn folder_of<'a, F>(rt: &'a F, asked: Asked<'a>, front: &'a str) -> Folder<'a, F> {
-    let ending = match asked.files.spec {
-        Some(_) => ".txt",
-        None => ".tokens",
-    };
     Folder {
         rt,
         path: asked.save,
-        inputs: (asked.files.grammar.path, asked.files.spec),
-        name: (front, ending),
+        name: (front, asked.ending()),
         failed: None,
     }
 }
@@ -228,7 +252,7 @@ fn put_sheet<'a, W: Write, E: Write, F: Files + AllocGlobal + Clone + Drop>(
         out,
         elements,
         folder: folder_of(rt, asked, asked.front()),
-        near_folder: folder_of(rt, asked, "near-"),
+        near_folder: folder_of(rt, asked, NEAR),
         writer,
         near: asked.near_in(rt.alloc(), elements.tables, writer)?,
         changed: 0,
@@ -267,12 +291,17 @@ fn put_open<F: Files + AllocGlobal + Clone + Drop, W: Write, E: Write>(
         cells: &cells,
     };
     let shown = (chosen.as_ref(), writer.as_ref());
-    put_sheet(rt, asked, elements, &mut *out, errors, shown)
+    // all lists are kept, or none, also where nobody reads the sentences any more
+    let mut out = Steady::new(out, asked.save.is_some());
+    let status = put_sheet(rt, asked, elements, &mut out, errors, shown)?;
+    out.finish()?;
+    Ok(status)
 }
 
 /// Writes what is asked for, and gives the exit status: 0; 1 where the grammar or the SPEC is
 /// refused, or where something isn't found or accepted and that is to count; 2 where longer
-/// sentences are asked for than are drawn; 3 where a file can't be read or written, memory runs
+/// sentences are asked for than are drawn, or a list would be written over a file that is read; 3
+/// where a file can't be read or written, memory runs
 /// out, or there are too many states.
 pub fn run_sentences<F: Files + AllocGlobal + Clone + Drop, W: Write, E: Write>(
     rt: &F,
@@ -282,6 +311,9 @@ pub fn run_sentences<F: Files + AllocGlobal + Clone + Drop, W: Write, E: Write>(
 ) -> io::Result<u8> {
     if asked.drawn.map_or(0, |drawn| drawn.length) > MOST_TOKENS {
         writeln!(errors, "ydebug: --length goes up to {MOST_TOKENS}")?;
+        return Ok(2);
+    }
+    if asked.is_refused(rt, errors)? {
         return Ok(2);
     }
     match Language::open(rt, asked.files, errors)? {

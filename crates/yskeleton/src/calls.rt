@@ -5,7 +5,27 @@ use crate::style::Style;
 use crate::text::Text;
 use std::io;
 use yparts::options::Purity;
+use yparts::params::{is_comment, piece_length};
 use yparts::parts::{Param, Taker};
+
+/// Writes a declaration in one line, without its comments.
+fn put_declaration(out: &mut Text<'_>, declaration: &[u8]) -> io::Result<()> {
+    let mut rest = declaration;
+    // each piece has a byte at least
+    for _ in declaration {
+        if rest.is_empty() {
+            break;
+        }
+        let (piece, after) = rest.split_at(piece_length(rest).min(rest.len()));
+        if is_comment(piece) || piece == b"\n".as_slice() {
+            out.add(b" ")?;
+        } else {
+            out.add(piece)?;
+        }
+        rest = after;
+    }
+    Ok(())
+}
 
 /// What a list of parameters shows.
 #[derive(Clone, Copy, PartialEq, Eq)]
@@ -30,7 +50,7 @@ impl List {
             out.add(b", ")?;
         }
         self.is_empty = false;
-        out.add(item)
+        put_declaration(out, item)
     }
 
     /// Writes an item that is declared by one text and named by another.

@@ -1,12 +1,14 @@
 //! What values need that are thrown away, and how values are shown.
 
 use crate::actions::{Trouble, put_action};
+use crate::references::{Piece, piece_at};
 use crate::scene::Scene;
 use crate::skeleton::Skeleton;
 use crate::text::Text;
 use std::io::Write;
-use yexplain::reads::name_of;
-use yparts::parts::{Care, Deed, Looks, Whose};
+use yexplain::reads::{left_of, name_of};
+use ylalr::{END, ERROR};
+use yparts::parts::{Action, Care, Deed, Looks, Whose};
 use ysymbols::Sym;
 
 /// How far code is meant for a symbol: the greater, the more closely.
@@ -21,11 +23,48 @@ fn closeness(care: &Care<'_>, symbol: Sym, looks: Looks<'_>) -> usize {
 }
 
 impl<'a> Skeleton<'a> {
-    /// Whether a symbol is one that a file names, or that has a tag.
+    /// Whether an action names the value of a symbol.
+    fn names_value(&self, action: Action<'a>, symbol: Sym) -> bool {
+        let scene = Scene::of_action(self.grammar, self.parts, self.style, action);
+        let mut rest = action.piece.text;
+        // each piece has a byte at least
+        for _ in action.piece.text {
+            let (piece, taken) = piece_at(rest, self.dialect());
+            if let Piece::Value(value) = piece {
+                if scene.symbol_of(value.whose) == Some(symbol) {
+                    return true;
+                }
+            }
+            rest = rest.get(taken..).unwrap_or(&[]);
+        }
+        false
+    }
+
+    /// Whether the value of an inner action is set by it, or read in its body.
+    fn is_used(&self, symbol: Sym) -> bool {
+        let mut own = None;
+        for action in &self.parts.actions {
+            if left_of(self.grammar, action.rule) == Some(symbol) {
+                own = Some(action.body);
+            }
+        }
+        for action in &self.parts.actions {
+            if Some(action.body) == own && self.names_value(*action, symbol) {
+                return true;
+            }
+        }
+        false
+    }
+
+    /// Whether code for all values is meant for a symbol: one that the file names, or the value of
+    /// an inner action, which bison leaves out where it isn't used.
     fn has_value(&self, symbol: Sym) -> bool {
-        let is_first = symbol < 2 && self.parts.looks_of(symbol).tag.is_none();
-        let is_made = name_of(self.grammar, symbol).starts_with(b"$");
-        !is_first && (!is_made || self.parts.tag_of(symbol).is_some())
+        match symbol {
+            END => self.style.is_bison() && !self.parts.ends.is_empty(),
+            ERROR => false,
+            _ if !name_of(self.grammar, symbol).starts_with(b"$") => true,
+            _ => !self.style.is_bison() || self.is_used(symbol),
+        }
     }
 
     /// The code for the value of a symbol.
@@ -35,7 +74,7 @@ impl<'a> Skeleton<'a> {
         let mut most = 0;
         for care in &self.parts.cares {
             let close = closeness(care, symbol, looks);
-            let is_for = close == 3 || self.has_value(symbol);
+            let is_for = close >= 2 || self.has_value(symbol);
             if care.deed == deed && close > most && is_for {
                 best = Some(*care);
                 most = close;

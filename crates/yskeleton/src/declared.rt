@@ -42,18 +42,46 @@ pub fn in_c(grammar: &Grammar, token: Sym) -> Option<CToken<'_>> {
 }
 
 /// What bison names beside the tokens of a file, and their numbers.
-const OWN: [(&str, &str); 4] = [
-    ("EMPTY", "-2"),
-    ("EOF", "0"),
-    ("error", "256"),
-    ("UNDEF", "2147483647"),
+const OWN: [(&str, Own); 4] = [
+    ("EMPTY", Own::Number(-2)),
+    ("EOF", Own::Number(0)),
+    ("error", Own::Error),
+    ("UNDEF", Own::Number(2_147_483_647)),
 ];
+
+/// A number of such a token.
+#[derive(Clone, Copy)]
+enum Own {
+    /// It is this one.
+    Number(i64),
+    /// That of `error`.
+    Error,
+}
 
 impl<'a> Skeleton<'a> {
     /// The token, where the file gives it a name in C.
     fn named(&self, token: Sym) -> Option<CToken<'a>> {
         let is_made = self.parts.looks_of(token).is_made;
-        in_c(self.grammar, token).filter(|_| !is_made)
+        let named = in_c(self.grammar, token).filter(|_| !is_made)?;
+        let number = self.numbering.number(token)?;
+        Some(CToken {
+            number: u32::try_from(number).unwrap_or(named.number),
+            ..named
+        })
+    }
+
+    /// The number of a token that bison has beside those of the file.
+    fn own_number(&self, own: Own) -> i64 {
+        match own {
+            Own::Number(number) => number,
+            Own::Error => i64::from(self.error_number()),
+        }
+    }
+
+    /// The number of `error`.
+    fn error_number(&self) -> u32 {
+        let number = self.numbering.number(ERROR).unwrap_or(256);
+        u32::try_from(number).unwrap_or(256)
     }
 
     /// Whether a file names by itself what bison names so.
@@ -80,10 +108,25 @@ impl<'a> Skeleton<'a> {
         out.write_all(name)
     }
 
+    /// Writes the name of a token that bison has beside those of the file.
+    fn put_own_name<W: Write>(&self, out: &mut W, name: &str) -> io::Result<()> {
+        out.write_all(self.style.token_prefix())?;
+        out.write_all(&self.style.macros)?;
+        write!(out, "{name}")
+    }
+
+    /// Writes the old macro of bison for what is no token.
+    pub fn put_error_code<W: Write>(&self, out: &mut W) -> io::Result<()> {
+        out.write_all(b"#define YYERRCODE ")?;
+        self.put_own_name(out, "UNDEF")?;
+        out.write_all(b"\n")
+    }
+
     /// Writes the members that bison has beside those of the file.
     fn put_own<W: Write>(&self, out: &mut W, is_first: &mut bool) -> io::Result<()> {
         for (name, number) in OWN {
             if !self.is_named(name) {
+                let number = self.own_number(number);
                 self.put_member(out, &self.style.macros, is_first)?;
                 write!(out, "{name} = {number}")?;
             }
@@ -112,6 +155,14 @@ impl<'a> Skeleton<'a> {
 
     /// Writes a `#define` for each token that has a name in C.
     fn put_defines<W: Write>(&self, out: &mut W) -> io::Result<()> {
+        for (name, number) in OWN {
+            if self.style.is_bison() && !self.is_named(name) {
+                let number = self.own_number(number);
+                out.write_all(b"#define ")?;
+                self.put_own_name(out, name)?;
+                writeln!(out, " {number}")?;
+            }
+        }
         for end in &self.parts.ends {
             self.put_define(out, end, 0)?;
         }
@@ -165,7 +216,7 @@ impl<'a> Skeleton<'a> {
             self.put_defines(out)?;
         }
         if !is_bison {
-            let error = number_of(self.grammar, ERROR).unwrap_or(256);
+            let error = self.error_number();
             writeln!(out, "#define YYERRCODE {error}")?;
         }
         Ok(())

@@ -33,7 +33,7 @@ yygo (yyway *yywayp, int yyrulep)
   YYGOTO (yystate, yystate, yyleft);
   if (yywayp->yyup == YYLOOKDEPTH)
     return -1;
-  yywayp->yymade[yywayp->yyup++] = (yystate_number) yystate;
+  yywayp->yymade[yywayp->yyup++] = YY_CAST (yystate_number, yystate);
   return yystate;
 }
 
@@ -48,22 +48,48 @@ yydoes (int yystate, int yytoken)
   yyn = yyrow[yystate] + yytoken;
   if (yycheck[yyn] == yytoken)
     return yyvalue[yyn];
-  return YYNSTATES + (YYMEMBER (yystate, yytoken) ? (int) yyusual[yystate] : YYNRULES);
+  return YYNSTATES + (YYMEMBER (yystate, yytoken) ? YY_CAST (int, yyusual[yystate]) : YYNRULES);
 }
 
 @if lists
-/* Whether a token stands in the list that bison would write: after the reductions that are the
-   most usual of their states, which it makes before it sees an error. */
+/* Whether %nonassoc gives a state an error at a token, which no reduction by default passes. */
 static int
-yycan_come (const yystate_number *yyssp, int yytoken)
+yyrefuses (int yystate, int yytoken)
+{
+  int yyn = yyrow[yystate] + yytoken;
+  return yyset[yystate] != 0 && yycheck[yyn] == yytoken && yyvalue[yyn] == YYNSTATES + YYNRULES;
+}
+
+/* The state in which bison sees the error at a token, after the reductions that it makes before:
+   those at the token, and the most usual one where the state has nothing for it. -1 where there is
+   no room for them. */
+static int
+yysees (const yystate_number *yyssp, int yytoken)
 {
   yyway yywayd;
   int yystate = *yyssp;
+  int yyn;
   yywayd.yybelow = yyssp;
   yywayd.yyup = 0;
-  while (yystate >= 0 && yydefault[yystate] != 0)
-    yystate = yygo (&yywayd, yydefault[yystate]);
-  return yystate >= 0 && yydoes (yystate, yytoken) != YYNSTATES + YYNRULES;
+  while (yystate >= 0)
+    {
+      yyn = yydoes (yystate, yytoken) - YYNSTATES;
+      if (yyn == YYNRULES)
+        yyn = yyrefuses (yystate, yytoken) ? 0 : YY_CAST (int, yydefault[yystate]);
+      if (yyn <= 0)
+        break;
+      yystate = yygo (&yywayd, yyn);
+    }
+  return yystate;
+}
+
+/* Whether a token stands in the list that bison writes in a state: one for which the state has
+   more than its most usual reduction. */
+static int
+yycan_come (int yystate, int yytoken)
+{
+  int yyn = yydoes (yystate, yytoken) - YYNSTATES;
+  return yyn != YYNRULES && (yyn <= 0 || yyn != YY_CAST (int, yydefault[yystate]));
 }
 @else
 /* Whether a token could come: after all reductions before it, it would be shifted. */
@@ -87,15 +113,26 @@ yycan_come (const yystate_number *yyssp, int yytoken)
 }
 @end
 
-/* Notes up to so many tokens that could come, none where there are more, and gives their number;
-   without a place for them it counts them all. */
+/* Notes up to so many tokens that could come in place of a wrong one, none where there are more,
+   and gives their number; without a place for them it counts them all. */
 static int
-yyexpected (const yystate_number *yyssp, int *yytokens, int yymost)
+yyexpected (const yystate_number *yyssp, int yywrong, int *yytokens, int yymost)
 {
   int yycount = 0;
   int yytoken;
+@if lists
+  int yystate = yysees (yyssp, yywrong);
+  if (yystate < 0)
+    return 0;
+@else
+  (void) yywrong;
+@end
   for (yytoken = 0; yytoken < YYNTOKENS; ++yytoken)
+@if lists
+    if (yytoken != YYERRTOKEN && yycan_come (yystate, yytoken))
+@else
     if (yytoken != YYERRTOKEN && yycan_come (yyssp, yytoken))
+@end
       {
         if (yytokens)
           {
@@ -158,13 +195,13 @@ yyunquoted (char *yyto, const char *yyname)
     yywhole: ;
     }
   if (yyto)
-    return (size_t) (yystpcpy (yyto, yyname) - yyto);
+    return YY_CAST (size_t, yystpcpy (yyto, yyname) - yyto);
   return strlen (yyname);
 }
 #endif
 # define YYCOPY(to, token) yytnamerr (to, yytname[token])
 @else
-# define YYCOPY(to, token) yyspelled (to, yysymbol_name ((yysymbol_kind_t) (token)))
+# define YYCOPY(to, token) yyspelled (to, yysymbol_name (YY_CAST (yysymbol_kind_t, token)))
 static size_t
 yyspelled (char *yyto, const char *yyname)
 {
@@ -181,7 +218,7 @@ static char *
 yysyntax_error (char *yyroom, size_t yysize, const yystate_number *yyssp, int yytoken)
 {
   int yytokens[5];
-  int yycount = 1 + yyexpected (yyssp, yytokens + 1, 4);
+  int yycount = 1 + yyexpected (yyssp, yytoken, yytokens + 1, 4);
   const char *yyform;
   size_t yylength;
   char *yymsg = yyroom;
@@ -201,12 +238,12 @@ yysyntax_error (char *yyroom, size_t yysize, const yystate_number *yyssp, int yy
     }
   yylength = strlen (yyform) + 1;
   for (yyn = 0; yyn < yycount; ++yyn)
-    yylength += YYCOPY (0, yytokens[yyn]);
+    yylength += YYCOPY (YY_NULLPTR, yytokens[yyn]);
   if (yylength > yysize)
     {
-      yymsg = (char *) YYMALLOC (yylength);
+      yymsg = YY_CAST (char *, YYMALLOC (yylength));
       if (!yymsg)
-        return 0;
+        return YY_NULLPTR;
     }
   yyn = 0;
   for (yyto = yymsg; (*yyto = *yyform) != '\0';)
@@ -246,12 +283,13 @@ static int
 yypcontext_expected_tokens (const yypcontext_t *yycontext, yysymbol_kind_t yyarg[], int yymost)
 {
   int yytokens[YYNTOKENS];
-  int yycount = yyexpected (yycontext->yyssp, yyarg ? yytokens : 0, yymost);
+  int yywrong = YY_CAST (int, yycontext->yytoken);
+  int yycount = yyexpected (yycontext->yyssp, yywrong, yyarg ? yytokens : YY_NULLPTR, yymost);
   int yyn;
   for (yyn = 0; yyarg && yyn < yycount; ++yyn)
-    yyarg[yyn] = (yysymbol_kind_t) yytokens[yyn];
+    yyarg[yyn] = YY_CAST (yysymbol_kind_t, yytokens[yyn]);
   if (yyarg && yycount == 0 && yymost > 0)
-    yyarg[0] = (yysymbol_kind_t) -2;
+    yyarg[0] = YY_CAST (yysymbol_kind_t, -2);
   return yycount;
 }
 

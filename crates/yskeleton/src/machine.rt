@@ -17,15 +17,15 @@ YYPARSE_DECL()
 @end
   /* Each state on the stack stands for a symbol, but the first; so a value belongs to it. They are
      local, since a lexer may call this function again. */
-  yystate_number yyssa[YYINITDEPTH];
-  YYSTYPE yyvsa[YYINITDEPTH];
+  yystate_number yyssa[YYROOM (YYINITDEPTH)];
+  YYSTYPE yyvsa[YYROOM (YYINITDEPTH)];
   yystate_number *yyss = yyssa;
   yystate_number *yyssp = yyssa;
-  yystate_number *yysslast = yyssa + YYINITDEPTH - 1;
+  yystate_number *yysslast = yyssa + YYROOM (YYINITDEPTH) - 1;
   YYSTYPE *yyvs = yyvsa;
   YYSTYPE *yyvsp = yyvsa;
 @if locations
-  YYLTYPE yylsa[YYINITDEPTH];
+  YYLTYPE yylsa[YYROOM (YYINITDEPTH)];
   YYLTYPE *yyls = yylsa;
   YYLTYPE *yylsp = yylsa;
   YYLTYPE yyloc;
@@ -62,14 +62,17 @@ YYPARSE_DECL()
   }
 @end
 #endif
-  memset ((void *) &yyval, 0, sizeof yyval);
+@if names
+  (void) yytname;
+@end
+  memset (YY_CAST (void *, &yyval), 0, sizeof yyval);
   yynerrs = 0;
   yychar = YYNOTOKEN;
-  memset ((void *) yyvsp, 0, sizeof *yyvsp);
+  memset (YY_CAST (void *, yyvsp), 0, sizeof *yyvsp);
 @if pure
-  memset ((void *) &yylval, 0, sizeof yylval);
+  memset (YY_CAST (void *, &yylval), 0, sizeof yylval);
 @if locations
-  memset ((void *) &yylloc, 0, sizeof yylloc);
+  memset (YY_CAST (void *, &yylloc), 0, sizeof yylloc);
 # if defined YYLTYPE_IS_TRIVIAL && YYLTYPE_IS_TRIVIAL
   yylloc.first_line = yylloc.last_line = 1;
   yylloc.first_column = yylloc.last_column = 1;
@@ -77,7 +80,7 @@ YYPARSE_DECL()
 @end
 @end
 @if locations
-  memset ((void *) yyerror_range, 0, sizeof yyerror_range);
+  memset (YY_CAST (void *, yyerror_range), 0, sizeof yyerror_range);
 @end
   *yyssp = 0;
 "##;
@@ -87,6 +90,9 @@ pub const MACHINE: &str = r##"
 @if locations
   *yylsp = yylloc;
 @end
+  if (yyssp == yysslast)
+    goto yygrow;
+
 yyloop:
   if (yyset[yystate] == 0)
     {
@@ -98,10 +104,10 @@ yyloop:
       yychar = YYLEX;
       if (yychar < 0)
         yychar = YYENDTOKEN;
-      YYTRACE ((stderr, "%sdebug: state %u, reading %d (%s)\n", YYPREFIX, yystate, (int) yychar,
+      YYTRACE ((stderr, "%sdebug: state %u, reading %d (%s)\n", YYPREFIX, yystate, yychar,
                 YYNAME (yychar)));
     }
-  yytoken = YYTRANSLATE (yychar);
+  yytoken = YY_CAST (unsigned, YYTRANSLATE (yychar));
   if (yytoken == YYERRTOKEN)
     {
       /* the lexer has told of the error itself */
@@ -127,12 +133,17 @@ yyloop:
         goto yyerrlab;
       if (yyn != 0)
         goto yyreduce;
+@if bison
+      /* The end is an entry of bison's stack. */
+      if (yydepth <= 3 && yydepth >= YYMAXDEPTH)
+        YYNOMEM;
+@end
       YYSTEP ('a', 0);
       YYACCEPT;
     }
   YYTRACE ((stderr, "%sdebug: state %u, shifting to state %u\n", YYPREFIX, yystate, yyn));
 @if prints
-  YYSHOW ("shifted", (int) yytoken, &yylval, &yylloc);
+  YYSHOW ("shifted", YY_CAST (int, yytoken), &yylval, &yylloc);
 @end
   YYSTEP ('s', yychar);
   if (yyerrflag > 0)
@@ -145,7 +156,7 @@ yyloop:
 @end
 
 yypush:
-  *++yyssp = (yystate_number) yystate;
+  *++yyssp = YY_CAST (yystate_number, yystate);
   if (yyssp == yysslast)
     goto yygrow;
   goto yyloop;
@@ -153,14 +164,14 @@ yypush:
 yyreduce:
   YYTRACE ((stderr, "%sdebug: state %u, reducing by rule %u (%s)\n", YYPREFIX, yystate, yyn,
             yyrule[yyn]));
-  YYSTEP ('r', (int) yyn);
+  YYSTEP ('r', YY_CAST (int, yyn));
   yym = yylen[yyn];
   if (yym > 0)
     yyval = *(yyvsp - yym + 1);
   else
-    memset ((void *) &yyval, 0, sizeof yyval);
+    memset (YY_CAST (void *, &yyval), 0, sizeof yyval);
 @if locations
-  YYLLOC_DEFAULT (yyloc, (yylsp - yym), (int) yym);
+  YYLLOC_DEFAULT (yyloc, (yylsp - yym), YY_CAST (int, yym));
   yyerror_range[1] = yyloc;
 @end
   switch (yyn)
@@ -189,7 +200,7 @@ pub const END: &str = r##"
 
 yygrow:
   {
-    size_t yyused = yydepth;
+    size_t yyused = YY_CAST (size_t, yyssp - yyss) + 1;
     yystate_number *yynewss;
     YYSTYPE *yynewvs;
 @if locations
@@ -206,27 +217,27 @@ yygrow:
       goto yyoverflow;
 @end
     yydepth = yydepth > YYMAXDEPTH / 2 ? YYMAXDEPTH : yydepth * 2;
-    yynewss = (yystate_number *) YYMALLOC (yydepth * sizeof *yynewss);
+    yynewss = YY_CAST (yystate_number *, YYMALLOC (YYROOM (yydepth) * sizeof *yynewss));
     if (!yynewss)
       YYNOMEM;
-    yynewvs = (YYSTYPE *) YYMALLOC (yydepth * sizeof *yynewvs);
+    yynewvs = YY_CAST (YYSTYPE *, YYMALLOC (YYROOM (yydepth) * sizeof *yynewvs));
     if (!yynewvs)
       {
         YYFREE (yynewss);
         YYNOMEM;
       }
 @if locations
-    yynewls = (YYLTYPE *) YYMALLOC (yydepth * sizeof *yynewls);
+    yynewls = YY_CAST (YYLTYPE *, YYMALLOC (YYROOM (yydepth) * sizeof *yynewls));
     if (!yynewls)
       {
         YYFREE (yynewss);
         YYFREE (yynewvs);
         YYNOMEM;
       }
-    memcpy ((void *) yynewls, (const void *) yyls, yyused * sizeof *yynewls);
+    YYMOVE (yynewls, yyls, yyused);
 @end
-    memcpy (yynewss, yyss, yyused * sizeof *yynewss);
-    memcpy ((void *) yynewvs, (const void *) yyvs, yyused * sizeof *yynewvs);
+    YYMOVE (yynewss, yyss, yyused);
+    YYMOVE (yynewvs, yyvs, yyused);
     if (yyss != yyssa)
       {
         YYFREE (yyss);
@@ -238,7 +249,7 @@ yygrow:
     yyss = yynewss;
     yyvs = yynewvs;
     yyssp = yyss + yyused - 1;
-    yysslast = yyss + yydepth - 1;
+    yysslast = yyss + YYROOM (yydepth) - 1;
     yyvsp = yyvs + yyused - 1;
 @if locations
     yyls = yynewls;
@@ -269,11 +280,11 @@ yyerrlab:
           YYABORT;
         }
       YYTRACE ((stderr, "%sdebug: state %u, error recovery discards token %d (%s)\n", YYPREFIX,
-                yystate, (int) yychar, YYNAME (yychar)));
+                yystate, yychar, YYNAME (yychar)));
       YYSTEP ('d', yychar);
 @if locations
 @if bison
-      if (yyerrdepth == (size_t) (yyssp - yyss))
+      if (yyerrdepth == YY_CAST (size_t, yyssp - yyss))
         {
           yyerror_range[1] = *yylsp;
           yyerror_range[2] = yylloc;
@@ -282,7 +293,7 @@ yyerrlab:
 @end
 @end
 @if destroys
-      YYDESTRUCT ((int) yytoken, &yylval, &yylloc);
+      YYDESTRUCT (YY_CAST (int, yytoken), &yylval, &yylloc);
 @end
       yychar = YYNOTOKEN;
       goto yyloop;
@@ -296,7 +307,7 @@ yyerrlab:
 @if speaks
       if (yysaid[yystate] != 0)
         {
-          char *yymsg = yyspoken (yyss, yyssp, (int) yytoken);
+          char *yymsg = yyspoken (yyss, yyssp, YY_CAST (int, yytoken));
           YYERROR_CALL (yymsg ? yymsg : YY_("syntax error"));
           if (!yymsg)
             YYNOMEM;
@@ -307,7 +318,7 @@ yyerrlab:
 @if expecting
       {
         char yyroom[128];
-        char *yymsg = yysyntax_error (yyroom, sizeof yyroom, yyssp, (int) yytoken);
+        char *yymsg = yysyntax_error (yyroom, sizeof yyroom, yyssp, YY_CAST (int, yytoken));
         YYERROR_CALL (yymsg ? yymsg : YY_("syntax error"));
         if (!yymsg)
           YYNOMEM;
@@ -321,7 +332,7 @@ yyerrlab:
         (void) yypcontext_expected_tokens;
         (void) yysymbol_name;
         yycontext.yyssp = yyssp;
-        yycontext.yytoken = (yysymbol_kind_t) yytoken;
+        yycontext.yytoken = YY_CAST (yysymbol_kind_t, yytoken);
 @if locations
         yycontext.yylloc = &yylloc;
 @end
@@ -363,7 +374,7 @@ yyrecover:
           YYABORT;
         }
       YYTRACE ((stderr, "%sdebug: error recovery discarding state %u\n", YYPREFIX, yystate));
-      YYSTEP ('p', (int) yystate);
+      YYSTEP ('p', YY_CAST (int, yystate));
 @if locations
       yyerror_range[1] = *yylsp;
 @end
@@ -375,7 +386,7 @@ yyrecover:
     }
   YYTRACE ((stderr, "%sdebug: state %u, error recovery shifting to state %u\n", YYPREFIX, yystate,
             yyn));
-  YYSTEP ('x', (int) yyn);
+  YYSTEP ('x', YY_CAST (int, yyn));
   yystate = yyn;
   *++yyvsp = yylval;
 @if locations
@@ -383,7 +394,7 @@ yyrecover:
   YYLLOC_DEFAULT (yyloc, yyerror_range, 2);
   *++yylsp = yyloc;
 @if bison
-  yyerrdepth = (size_t) (yyssp - yyss) + 1;
+  yyerrdepth = YY_CAST (size_t, yyssp - yyss) + 1;
 @end
 @end
   goto yypush;
@@ -412,8 +423,8 @@ yyreturn:
 @if destroys
   if (yychar != YYNOTOKEN)
     {
-      yytoken = YYTRANSLATE (yychar);
-      YYDESTRUCT ((int) yytoken, &yylval, &yylloc);
+      yytoken = YY_CAST (unsigned, YYTRANSLATE (yychar));
+      YYDESTRUCT (YY_CAST (int, yytoken), &yylval, &yylloc);
     }
   /* The symbols of a rule whose action ended the parse are that action's. */
   YYPOPSTACK (yym);

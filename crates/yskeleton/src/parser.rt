@@ -18,11 +18,11 @@ use std::io::{self, Write};
 use yparts::options::Purity;
 use yparts::parts::{Deed, Target};
 
-/// The names that a prefix changes; the first stay where each call has its own variables.
-const SHARED: [&str; 4] = ["parse", "lex", "error", "debug"];
+/// The names that a prefix changes.
+const NAMES: [&str; 5] = ["parse", "lex", "error", "debug", "nerrs"];
 
-/// Those that stand for variables that calls share.
-const VARIABLES: [&str; 3] = ["lval", "char", "nerrs"];
+/// Those that bison changes only where calls share their variables.
+const VARIABLES: [&str; 3] = ["lval", "char", "lloc"];
 
 /// The names of types and macros that `api.prefix` changes.
 const TYPES: [&str; 4] = ["STYPE", "LTYPE", "LTYPE_IS_TRIVIAL", "DEBUG"];
@@ -39,14 +39,13 @@ impl Style<'_> {
     /// Writes the names that begin with another prefix.
     fn put_prefix(&self, out: &mut Text<'_>) -> io::Result<()> {
         if self.names.as_slice() != b"yy".as_slice() {
-            for name in SHARED {
+            for name in NAMES {
                 self.put_name(out, name)?;
             }
-            if !self.is_pure() {
+            if !self.is_pure() || !self.is_bison() {
                 for name in VARIABLES {
                     self.put_name(out, name)?;
                 }
-                self.put_name(out, "lloc")?;
             }
         }
         out.add(b"#define YYPREFIX \"")?;
@@ -287,6 +286,7 @@ impl<'a> Skeleton<'a> {
         self.put_tables(alloc, &mut out, defaults)?;
         self.put_fixed(&mut out, WORDS)?;
         if self.style.is_bison() {
+            self.put_error_code(&mut out)?;
             self.put_machine(&mut out)?;
             self.put_tail(&mut out)?;
         } else {

@@ -178,6 +178,15 @@ impl<'a> Scene<'a> {
         }
     }
 
+    /// The symbol that is meant; `None` where there is none in the body.
+    pub fn symbol_of(&self, whose: Whose<'_>) -> Option<Sym> {
+        match self.meant(whose) {
+            Ok(None) => self.left,
+            Ok(Some(number)) => self.symbol(number),
+            Err(_) => None,
+        }
+    }
+
     /// The member that a symbol's value is, where the file tells it.
     fn member_of(&self, symbol: Option<Sym>) -> Option<Member<'a>> {
         let symbol = symbol?;

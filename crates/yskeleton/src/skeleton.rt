@@ -1,6 +1,7 @@
 //! What the texts of a parser are made of.
 
 use crate::actions::{Trouble, put_action};
+use crate::numbering::Numbering;
 use crate::references::{Dialect, names_place};
 use crate::scene::Scene;
 use crate::spoken::Speech;
@@ -30,6 +31,8 @@ pub struct Skeleton<'a> {
     pub style: &'a Style<'a>,
     /// The arrays of the tables.
     pub code: &'a Code,
+    /// The numbers of tokens.
+    pub numbering: &'a Numbering,
     /// Messages for errors, where the parser has some.
     pub speech: Option<&'a Speech>,
 }

@@ -40,7 +40,7 @@ impl Speech {
     /// No message yet, for so many states.
     pub fn new(alloc: Global, states: usize) -> Made<Speech> {
         Ok(Speech {
-            items: Vec::from_slice(alloc, b"  { 0, -2 },\n")?,
+            items: Vec::from_slice(alloc, b"  { YY_NULLPTR, -2 },\n")?,
             count: 1,
             firsts: vec![in alloc; 0usize; states]?,
         })
@@ -81,19 +81,19 @@ impl Speech {
     /// Adds the token that can't come, as 0, or an entry of the stack, counted from 1 at the top.
     pub fn add_value(&mut self, number: usize) -> io::Result<()> {
         self.count = self.count.saturating_add(1);
-        writeln!(self.items, "  {{ 0, {number} }},")
+        writeln!(self.items, "  {{ YY_NULLPTR, {number} }},")
     }
 
     /// Adds the tokens that could come.
     pub fn add_expected(&mut self) -> io::Result<()> {
         self.count = self.count.saturating_add(1);
-        self.items.write_all(b"  { 0, -1 },\n")
+        self.items.write_all(b"  { YY_NULLPTR, -1 },\n")
     }
 
     /// Ends the message.
     pub fn end(&mut self) -> io::Result<()> {
         self.count = self.count.saturating_add(1);
-        self.items.write_all(b"  { 0, -2 },\n")
+        self.items.write_all(b"  { YY_NULLPTR, -2 },\n")
     }
 
     /// Writes the arrays.
@@ -131,10 +131,10 @@ yyadd (char *yyto, size_t yyat, const char *yytext)
 
 /* The same of the tokens that could come: the first 20, and dots where there are more. */
 static size_t
-yyadd_expected (char *yyto, size_t yyat, const yystate_number *yyssp)
+yyadd_expected (char *yyto, size_t yyat, const yystate_number *yyssp, int yywrong)
 {
   int yytokens[YYNTOKENS];
-  int yycount = yyexpected (yyssp, yytokens, YYNTOKENS);
+  int yycount = yyexpected (yyssp, yywrong, yytokens, YYNTOKENS);
   int yyn;
   for (yyn = 0; yyn < yycount && yyn < 20; ++yyn)
     {
@@ -153,7 +153,7 @@ yyadd_piece (char *yyto, size_t yyat, const yypiece *yyp, const yystate_number *
   if (yyp->yytext)
     return yyadd (yyto, yyat, yyp->yytext);
   if (yyp->yyvalue < 0)
-    return yyadd_expected (yyto, yyat, yyssp);
+    return yyadd_expected (yyto, yyat, yyssp, yytoken);
   if (yyp->yyvalue == 0)
     return yyadd (yyto, yyat, yycalled[yytoken]);
   if (yyp->yyvalue > yyssp - yyss)
@@ -176,8 +176,8 @@ yyadd_all (char *yyto, const yystate_number *yyss, const yystate_number *yyssp, 
 static char *
 yyspoken (const yystate_number *yyss, const yystate_number *yyssp, int yytoken)
 {
-  size_t yylength = yyadd_all (0, yyss, yyssp, yytoken);
-  char *yymsg = (char *) YYMALLOC (yylength + 1);
+  size_t yylength = yyadd_all (YY_NULLPTR, yyss, yyssp, yytoken);
+  char *yymsg = YY_CAST (char *, YYMALLOC (yylength + 1));
   if (yymsg)
     {
       *yymsg = '\0';

@@ -158,7 +158,7 @@ impl<'a> Style<'a> {
     }
 
     /// The conditions of the fixed texts.
-    pub fn switches(&self) -> [(&'static str, bool); 10] {
+    pub fn switches(&self) -> [(&'static str, bool); 11] {
         [
             ("bison", self.is_bison()),
             ("pure", self.is_pure()),
@@ -170,6 +170,7 @@ impl<'a> Style<'a> {
             ("custom", self.is_custom()),
             ("lists", self.lists()),
             ("speaks", self.wishes.speaks),
+            ("names", self.options.has_names),
         ]
     }
 }

@@ -3,7 +3,7 @@
 use crate::arrays::{put_array, put_list, type_of};
 use crate::declared::is_c_name;
 use crate::skeleton::Skeleton;
-use crate::text::{Text, put_quoted};
+use crate::text::{Text, put_inner, put_quoted};
 use std::alloc::{AllocError, Global};
 use std::io::{self, Write};
 use yexplain::reads::{body_of, left_of, name_of};
@@ -47,7 +47,7 @@ fn untranslated(label: &[u8]) -> &[u8] {
 
 /// Writes that the name of a kind of symbols is translated.
 fn put_translated(out: &mut Text<'_>, kind: usize) -> io::Result<()> {
-    writeln!(out, "  if ((int) yysymbol == {kind})")?;
+    writeln!(out, "  if (YY_CAST (int, yysymbol) == {kind})")?;
     writeln!(out, "    return _(yysymbols[{kind}]);")
 }
 
@@ -73,7 +73,7 @@ impl<'a> Skeleton<'a> {
     /// Writes what a symbol is called, within a string of C.
     fn put_name(&self, out: &mut Text<'_>, symbol: Sym, spelled: Spelled) -> io::Result<()> {
         match (self.label(symbol), spelled) {
-            (Some([b'"', inner @ .., b'"']), Spelled::Plain) => out.add(inner),
+            (Some([b'"', inner @ .., b'"']), Spelled::Plain) => put_inner(out, inner),
             (Some(label), _) => put_quoted(out, label),
             (None, _) => put_quoted(out, name_of(self.grammar, symbol)),
         }
@@ -100,18 +100,17 @@ impl<'a> Skeleton<'a> {
         for symbol in tokens..self.grammar.symbols() {
             self.put_item(out, symbol, spelled)?;
         }
-        out.add(b"  0\n};\n")
+        out.add(b"  YY_NULLPTR\n};\n")
     }
 
     /// Writes the array of what tokens are called by their numbers, as byacc has it.
     fn put_numbered(&self, out: &mut Text<'_>) -> io::Result<()> {
-        let numbers = self.code.numbers.as_slice();
         out.add(b"static const char *const yyname[] = {\n")?;
-        for token in numbers {
+        for token in &self.numbering.array {
             if *token < self.code.tokens {
                 self.put_item(out, *token, Spelled::Quoted)?;
             } else {
-                out.add(b"  0,\n")?;
+                out.add(b"  YY_NULLPTR,\n")?;
             }
         }
         out.add(b"  \"illegal-symbol\"\n};\n")
@@ -125,7 +124,7 @@ impl<'a> Skeleton<'a> {
             put_rule(out, self.grammar, rule)?;
             out.add(b"\",\n")?;
         }
-        out.add(b"  0\n};\n")
+        out.add(b"  YY_NULLPTR\n};\n")
     }
 
     /// Whether names of tokens stand without a trace too.
@@ -228,7 +227,7 @@ impl<'a> Skeleton<'a> {
 
 /// What a token is called by its number.
 const BYACC_NAME: &str = r##"# define YYNAME(c) \
-  yyname[(unsigned) (c) <= YYMAXTOKEN && yyname[c] ? (int) (c) : YYMAXTOKEN + 1]
+  yyname[YY_CAST (unsigned, c) <= YYMAXTOKEN && yyname[c] ? (c) : YYMAXTOKEN + 1]
 "##;
 
 /// How the function begins that names symbols.
@@ -244,7 +243,7 @@ impl Skeleton<'_> {
         let code = self.code;
         let (states, rules, tokens, span) = (code.states, code.rules, code.tokens, code.span);
         let nonterminals = self.grammar.symbols().saturating_sub(tokens);
-        let greatest = code.numbers.as_slice().len().saturating_sub(1);
+        let greatest = self.numbering.greatest();
         let kind = type_of(states);
         writeln!(
             out,
@@ -274,6 +273,17 @@ impl Skeleton<'_> {
         put_list(out, "yystos", &kinds, self.grammar.symbols())
     }
 
+    /// Writes how numbers of tokens are translated: by the array of the code, unless the file has
+    /// numbers that the grammar can't have.
+    fn put_translation(&self, alloc: Global, out: &mut Text<'_>) -> io::Result<()> {
+        let (code, numbering) = (self.code, self.numbering);
+        if !numbering.is_changed {
+            return put_array(out, "yytranslate", &code.numbers);
+        }
+        put_list(out, "yytranslate", &numbering.array, code.tokens)?;
+        numbering.put_above(alloc, out, code.tokens)
+    }
+
     /// Writes the tables of a parser, with these rules that bison would reduce by default, where
     /// its lists are wanted.
     pub fn put_tables(
@@ -284,8 +294,8 @@ impl Skeleton<'_> {
     ) -> io::Result<()> {
         let code = self.code;
         self.put_counts(out)?;
+        self.put_translation(alloc, out)?;
         for (name, numbers) in [
-            ("yytranslate", &code.numbers),
             ("yylhs", &code.lefts),
             ("yylen", &code.lengths),
             ("yyusual", &code.usual),
@@ -301,8 +311,12 @@ impl Skeleton<'_> {
         ] {
             put_array(out, name, numbers)?;
         }
-        if self.style.destroys || self.style.prints || self.style.wishes.speaks {
+        if self.style.destroys || self.style.wishes.speaks {
             self.put_leading(alloc, out)?;
+        } else if self.style.prints {
+            out.add(b"#if YYDEBUG\n")?;
+            self.put_leading(alloc, out)?;
+            out.add(b"#endif\n")?;
         }
         if self.style.lists() {
             put_list(out, "yydefault", defaults, code.rules)?;

@@ -5,13 +5,43 @@ use std::io::{self, Write};
 use yexplain::lines::newlines;
 use ysymbols::let_go;
 
+/// The digit of the last three bits of a byte.
+fn octal(byte: u8) -> u8 {
+    b'0'.saturating_add(byte & 7)
+}
+
+/// Writes a byte within a string of C.
+fn put_byte<W: Write>(out: &mut W, byte: u8) -> io::Result<()> {
+    match byte {
+        b'"' | b'\\' => out.write_all(&[b'\\', byte]),
+        b'\n' => out.write_all(b"\\n"),
+        0..=31 | 127 => out.write_all(&[b'\\', octal(byte >> 6), octal(byte >> 3), octal(byte)]),
+        _ => out.write_all(&[byte]),
+    }
+}
+
 /// Writes bytes within a string of C.
 pub fn put_quoted<W: Write>(out: &mut W, bytes: &[u8]) -> io::Result<()> {
+    let mut before = 0u8;
     for byte in bytes {
-        if *byte == b'\\' || *byte == b'"' {
+        if before == b'?' && *byte == b'?' {
+            out.write_all(b"\\")?;
+        }
+        put_byte(out, *byte)?;
+        before = *byte;
+    }
+    Ok(())
+}
+
+/// Writes what stands within a string of C as it is, but for trigraphs.
+pub fn put_inner<W: Write>(out: &mut W, bytes: &[u8]) -> io::Result<()> {
+    let mut before = 0u8;
+    for byte in bytes {
+        if before == b'?' && *byte == b'?' {
             out.write_all(b"\\")?;
         }
         out.write_all(&[*byte])?;
+        before = *byte;
     }
     Ok(())
 }

@@ -15,13 +15,32 @@ pub const FRONT: &str = r##"
 @end
 "##;
 
-/// What a parser includes.
+/// What a parser includes, and how it casts in C and C++.
 pub const INCLUDES: &str = r##"
 #if YYDEBUG
 #include <stdio.h>
 #endif
 #include <stdlib.h>
 #include <string.h>
+
+#ifndef YY_CAST
+# ifdef __cplusplus
+#  define YY_CAST(Type, Val) static_cast<Type> (Val)
+# else
+#  define YY_CAST(Type, Val) ((Type) (Val))
+# endif
+#endif
+#ifndef YY_NULLPTR
+# ifdef __cplusplus
+#  if __cplusplus >= 201103L
+#   define YY_NULLPTR nullptr
+#  else
+#   define YY_NULLPTR 0
+#  endif
+# else
+#  define YY_NULLPTR ((void *) 0)
+# endif
+#endif
 "##;
 
 /// What stands after the tables: words for actions, the limits of the stack, and the variables.
@@ -39,8 +58,12 @@ pub const WORDS: &str = r##"
 #define YYNOSYMBOL YYUNDEF
 #define YYENDTOKEN YYEOF
 @end
+#ifndef YYSOUGHT
+# define YYSOUGHT(c) YYNTOKENS
+#endif
 #define YYTRANSLATE(c) \
-  ((unsigned) (c) <= YYMAXTOKEN ? (int) yytranslate[(unsigned) (c)] : YYNTOKENS)
+  (YY_CAST (unsigned, c) <= YYMAXTOKEN ? YY_CAST (int, yytranslate[YY_CAST (unsigned, c)]) \
+   : YYSOUGHT (c))
 
 #define yyerrok (yyerrflag = 0)
 #define yyclearin (yychar = YYNOTOKEN)
@@ -88,11 +111,32 @@ pub const WORDS: &str = r##"
 #  define YYINITDEPTH 200
 # endif
 #endif
+@if bison
+/* How many entries there is room for. The stack is full by the last one of a depth. */
+#define YYROOM(depth) (depth)
+@else
+/* How many entries there is room for. The stack is full by one more than a depth. */
+#define YYROOM(depth) ((depth) + 1)
+@end
 #ifndef YYMALLOC
 # define YYMALLOC malloc
 #endif
 #ifndef YYFREE
 # define YYFREE free
+#endif
+/* Copies entries to memory that has none yet. */
+#ifdef __cplusplus
+# define YYMOVE(To, From, N) \
+  memcpy (static_cast<void *> (To), static_cast<const void *> (From), (N) * sizeof *(To))
+#else
+# define YYMOVE(To, From, N) \
+  do \
+    { \
+      size_t yyi; \
+      for (yyi = 0; yyi < (N); ++yyi) \
+        (To)[yyi] = (From)[yyi]; \
+    } \
+  while (0)
 #endif
 @if locations
 #ifndef YYRHSLOC

@@ -1,0 +1,6 @@
+/* the peer refuses it too */
+%token A
+/* refused below: */
+%nterm A
+%%
+all : A ;

@@ -1,0 +1,5 @@
+%union { int number; };
+%token <number> A
+%skeleton "glr.c"
+%%
+s : A ;

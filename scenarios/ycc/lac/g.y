@@ -1,0 +1,4 @@
+%define parse.lac full
+%token A
+%%
+s : A { $$ = $3; } ;
