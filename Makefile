@@ -23,13 +23,14 @@
 # make deb        makes Debian packages in bin/ of the programs and the library there; make deb-test tries them in a scratch root, with lintian, CMake and Meson (packaging/README.md says what both need)
 # make imports    imports grammars drawn at random, for a minute, and those of some source packages of Debian, by the programs that make build left, and compares their tables with bison's; FILES="a.y b.y" or PACKAGES="bash" names others. It takes bison and a network
 # make hostile    runs both programs, proved, between devices that fail and on hostile files and streams, and ydebug on full disks and pipes that nobody reads
-# make edits      tries every mutant that the prover must refuse, also those that the gate leaves out, on a copy; two hours
-# make selftest   gives each check wrong answers, which it has to catch; under a minute
+# make edits      tries every mutant that the prover must refuse, also those that the gate leaves out, over the libraries that the gate left
+# make quick      what can run before anything is proved: the scenarios and the tests, built without proof, the tests of the checks, whether each mutant can be applied; ten minutes. It is not the gate
+# make selftest   gives each check wrong answers, which it has to catch; a minute and a half
 # make try-install   tries make install, uninstall and dist in an empty folder, by the programs that make build left
-# make test       the gate: every proof from nothing, the mutants in must-fail, the tests, the stored runs, make selftest, the scenarios, make hostile, make refuse over three examples, the allocations of every session, the parsers, the drivers, each comparison for half a minute at most, and the pages where there is a browser
+# make test       the gate: every proof from nothing, the mutants, the tests, the stored runs, make selftest, the scenarios, make hostile, make refuse over three examples, the allocations of every session, the parsers, the drivers, each comparison for half a minute at most, and the pages where there is a browser
 #
 # python3 -m checks --help lists all checks as commands; python3 -m checks scenario NAME runs one scenario.
-.PHONY: demo examples scenarios accept build bench refuse debug page-test compare parsers features packages drivers library library-test playground playground-test wheel install uninstall dist deb deb-test imports hostile edits selftest try-install test
+.PHONY: quick demo examples scenarios accept build bench refuse debug page-test compare parsers features packages drivers library library-test playground playground-test wheel install uninstall dist deb deb-test imports hostile edits selftest try-install test
 
 # The checks, and where `make build` leaves a program. Without a path a check takes crates/NAME/out/NAME.
 checks := python3 -m checks
@@ -258,7 +259,10 @@ hostile: build
 	@$(checks) hostile
 
 edits:
-	@$(checks) edits
+	@$(checks) mutants --all
+
+quick:
+	@$(checks) quick
 
 selftest:
 	@$(checks) selftest

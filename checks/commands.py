@@ -56,6 +56,7 @@ GROUPS = {
     },
     "the repository": {
         "gate": "gate.gate",
+        "quick": "gate.quick",
         "selftest": "gate.selftest",
         "rings": "gate.rings",
         "fault-words": "gate.words",

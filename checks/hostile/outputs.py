@@ -16,6 +16,11 @@ from checks.shared.grammars import dense
 from checks.shared.spelling import WARNED
 
 SECONDS = 60
+# The most seconds of a processor that a report takes beside the tables.
+SOON = 2
+# Eight rules whose conflicts have many other lists of tokens, of which few come to their states.
+EIGHT = b"%token A\n%%\nt : t t '*' '/' %prec '*' | t s | | %prec A ;\n"
+EIGHT += b"s : | '/' | s t A | '/' t ;\n"
 # The most bytes of a file on a disk that counts as full.
 MOST = 1_000
 LIST = b"%%\nlist : 'x' | list 'x' ;\n"
@@ -225,6 +230,27 @@ def spent(count, programs):
     yield f"conflicts of {count} dense nonterminals", differs
 
 
+def seconds_of(words, room, programs):
+    """The seconds of a processor that a run takes."""
+    how = {"cwd": room, "env": {}, "executable": programs[words[0]]}
+    quiet = {"stdout": subprocess.DEVNULL, "stderr": subprocess.DEVNULL}
+    with subprocess.Popen(words, **how, **quiet) as running:
+        _, status, used = os.wait4(running.pid, 0)
+        running.returncode = os.waitstatus_to_exitcode(status)
+    return used.ru_utime + used.ru_stime
+
+
+def soon(text, programs):
+    """A report takes few seconds more than the tables."""
+    with tempfile.TemporaryDirectory() as room:
+        lay({"one.y": text}, room)
+        tables = seconds_of(["ydebug", "table", "one.y"], room, programs)
+        report = seconds_of(["ydebug", "conflicts", "one.y"], room, programs)
+    is_late = report - tables > SOON
+    differs = [f"{report} seconds, and {tables} for the tables\n"] if is_late else []
+    yield f"conflicts in time: {len(text)} bytes", differs
+
+
 def tasks(programs, _):
     """All of these, where `ydebug` is there."""
     if "ydebug" in programs:
@@ -232,3 +258,4 @@ def tasks(programs, _):
             yield from some(programs)
         yield partial(reloaded, programs)
         yield partial(spent, 120, programs)
+        yield partial(soon, EIGHT, programs)

@@ -33,14 +33,18 @@ from checks.shared.tally import Tally
 
 EVERY, STRIDE, ALL = 2_000, 97, 10**9
 NO_MEMORY = b"no memory\n"
-# What no example has: messages, help, the line on conflicts, files that are there before, edits.
+# What no example has: messages, help, the line on conflicts, files that are there before, edits,
+# files that are imported.
 OTHERS = """
 yacc/absent-grammar yacc/help yacc/no-word yacc/old-files-replaced yacc/refused-grammar
 yacc/shift-reduce-conflict ystep/absent-tokens ystep/fault-foreign-byte ystep/help ystep/no-word
 sessions/inner-action sessions/dangling-else trees/sum-and-product tokens/unknown-word
 edits/missing-operator recovery/counter
+ycc/expected
 """.split()
 FEW = ["edits", "one-rule", "recovery"]
+# A file that is imported.
+FEW_OTHERS = ["ycc/expected"]
 
 
 def refused_at(first, last, it, programs, library):
@@ -179,7 +183,7 @@ def scenarios(programs, few):
         yield name, it
         if it.words[0] == "ystep":
             yield name, with_usual(calls_over(it), programs)
-    for name in [] if few else OTHERS:
+    for name in FEW_OTHERS if few else OTHERS:
         yield name, stored(f"scenarios/{name}")
 
 

@@ -8,7 +8,7 @@ import unittest
 from unittest import mock
 
 from checks import commands
-from checks.gate import clock, gate, rings, selftest, trace, words
+from checks.gate import clock, gate, quick, rings, selftest, trace, words
 from checks.shared import arguments
 from checks.shared.places import FAULTS, TOP
 from checks.shared.tally import Tally, sum_of
@@ -104,6 +104,45 @@ class Gate(Planted):
         names = [it[0] for it in (*gate.QUICK, *gate.RUNNERS)]
         self.assertLessEqual({*names}, {*commands.modules()})
         self.assertEqual(len(names), len({*names}))
+
+
+class Quick(Planted):
+    """Parts that go wrong in each way, and what is left out."""
+
+    TESTS = "print('test result: ok. 3 passed; 0 failed; 0 ignored'); print('run=ended')"
+
+    def quick(self, *texts, left_out=()):
+        """The status of a run over parts, and its lines."""
+        parts = [quick.Part(f"part{at}", python(it)[1]) for at, it in enumerate(texts)]
+        status, said = self.said(lambda _: quick.run([], parts, left_out))
+        return status, said.splitlines()
+
+    def test_each_end(self):
+        """Sums and results of tests are added; a failure, a status and no sum fail."""
+        status, lines = self.quick(WELL, self.TESTS)
+        self.assertEqual((status, lines[-1]), (0, "5 passed, 0 failed"))
+        self.assertTrue(lines[-2].startswith("This is not the gate, and proves nothing"), lines)
+        bad = [f"{WELL}; raise SystemExit(1)", "", "print('fine')", "print('0 passed, 0 failed')"]
+        for text in [*bad, self.TESTS.replace("0 failed", "2 failed"), "raise SystemExit(1)"]:
+            with self.subTest(text=text):
+                status, lines = self.quick(WELL, text)
+                self.assertEqual(status, 1)
+                self.assertFalse(lines[-1].endswith(" 0 failed"), lines)
+
+    def test_skips(self):
+        """What a part skips is told, and what is left out; nothing else where all is well."""
+        status, lines = self.quick(f"print('much'); print('skipped: it'); {WELL}", left_out=["x"])
+        self.assertEqual((status, lines[0], "much" in lines), (0, "skipped: it", False))
+        self.assertTrue(any(it.startswith("skipped: x: bin/ has no") for it in lines), lines)
+
+    def test_parts(self):
+        """Proved programs are asked only where they are there; each part is a command."""
+        for is_built, names in ((True, {*quick.PROVED}), (False, set())):
+            found = {it.name for it in quick.parts(is_built)}
+            self.assertEqual(found & {*quick.PROVED}, names)
+            self.assertLessEqual({"scenarios", "selftest", "mutants", "ytables_tests"}, found)
+        for words, _ in quick.PROVED.values():
+            self.assertIn(words[0], commands.modules())
 
 
 class Clock(Planted):

@@ -3,7 +3,7 @@ import itertools
 from functools import partial
 from unittest import mock
 
-from checks.hostile import beginnings, between, limits, outputs, run, strange
+from checks.hostile import beginnings, between, limits, outputs, run, strange, unsaid
 from checks.hostile.devices import Device
 from checks.hostile.sessions import SHORT, reply_to_beginning
 from checks.scenarios.cases import Beginning, scenario
@@ -236,6 +236,95 @@ except OSError:
                 return all_of(outputs.spent(1, programs))
 
         self.each_caught(look, right, *changed(right, *pairs), "")
+
+
+    def test_soon(self):
+        """A report that takes longer than it may."""
+        late = "import time\nend = time.process_time() + 0.3\n"
+        late += "while 'conflicts' in sys.argv and time.process_time() < end:\n    pass\n"
+
+        def look(text):
+            """What is wrong with a program."""
+            with mock.patch.object(outputs, "SOON", 0.2):
+                return all_of(outputs.soon(b"", self.programs(text, "ydebug")))
+
+        self.each_caught(look, "pass\n", late)
+
+
+# What says something and writes a file, and tells by its status whether it was said.
+SAYS = r"""
+status = 0
+try:
+    os.write(2, b"said\n")
+except OSError:
+    status = 1
+with open("x.c", "w") as file:
+    file.write("made")
+sys.exit(status)
+"""
+# What keeps lists and reports them, and ends quietly where nobody reads.
+KEEPS = r"""
+os.mkdir("lists")
+for number in range(16):
+    open(f"lists/{number}", "w").close()
+try:
+    os.write(1, b"told\n")
+except BrokenPipeError:
+    sys.exit(141)
+"""
+
+
+class Unsaid(Hostile):
+    """Messages and reports that nobody gets."""
+
+    def test_messages(self):
+        """A file that isn't written where nothing can be said, another file, another status."""
+        given = ["p"], {"one.y": b""}, 1
+        pairs = [("status = 1", "sys.exit(1)"), ("status = 1", "pass")]
+        pairs += [('file.write("made")', "file.write(str(status))")]
+
+        def look(one, text):
+            """What is wrong with a program."""
+            return all_of(one(*given, self.programs(text)))
+
+        for one in (unsaid.full, unsaid.closed):
+            self.each_caught(partial(look, one), SAYS, *changed(SAYS, *pairs))
+        silent = SAYS.replace('b"said\\n"', 'b""')
+        self.assertTrue(look(unsaid.full, silent))
+
+    def test_reports(self):
+        """Lists that aren't all kept, and another status."""
+        broken = KEEPS.replace("range(16)", "range(15)")
+        late = KEEPS.replace("    sys.exit(141)", "    os.remove('lists/3')\n    sys.exit(141)")
+
+        def look(text):
+            """What is wrong with a program."""
+            return all_of(unsaid.unread(["p"], self.programs(text)))
+
+        self.each_caught(look, KEEPS, broken, late, KEEPS.replace("141", "1"))
+
+    def test_words(self):
+        """Another message, and another status."""
+        text = "sys.stderr.write('p: no text\\n')\nsys.exit(2)\n"
+        it = scenario(["p"], {}, message=b"p: no text\n", status=b"2\n")
+
+        def look(text):
+            """What is wrong with a program."""
+            return all_of(unsaid.told(it, self.programs(text)))
+
+        self.each_caught(look, text, *changed(text, ("no text", "text"), ("(2)", "(3)")))
+
+    def test_names(self):
+        """A grammar file that is replaced."""
+        it = scenario(["p"], {"one.y": b"old"}, **{"left/same": b"old"})
+        looks = unsaid.with_second_name, unsaid.has_second_name
+        anew = "os.remove('same')\nopen('same', 'w').write('old')\n"
+
+        def look(text):
+            """What is wrong with a program."""
+            return all_of(outputs.kept(it, self.programs(text), *looks))
+
+        self.each_caught(look, "pass\n", anew, "open('same', 'w').write('new')\n")
 
 
 class Strange(Hostile):

@@ -321,6 +321,13 @@ class Judged(Tiny):
                 self.tried("--anew", "tiny/first_is_nought", "tiny/loses_names")
             self.assertEqual(checked.call_count, {1: 1, 2: 3}[count])
 
+    def test_closures(self):
+        """A closure belongs to its function, at the root and below."""
+        first = self.applied("first_is_nought").touched
+        own = "fn tiny::fn::first::any: no proof: expected it\n"
+        for text, count in ((own, 0), (own.replace("first", "firsts"), 1), (self.OPEN, 0)):
+            self.assertEqual(len(Said(text, "tiny").strays(first)), count, text)
+
 
 class Keeping(Planted):
     """Entries that are damaged."""

@@ -20,7 +20,7 @@ use ycounterexample::groups::{Conflicts, Kind};
 use ycounterexample::trial::empty_session;
 use yexplain::lines::Lines;
 use yexplain::reads::{Made, grammar_of};
-use yexplain::sources::{Source, sources_of};
+use yexplain::sources::sources_of;
 use yfaults::opening::Opened;
 use yfiles::steady::Steady;
 use ylists::kinds::{put_counts, put_named};
@@ -61,22 +61,6 @@ struct Report<'a, W, F> {
     splits: usize,
 }
 
-/// Where the tokens of the first conflicts of blocks come from.
-fn all_sources(
-    alloc: Global,
-    tables: &Tables,
-    lines: &Lines,
-    blocks: &[Block],
-) -> Made<Vec<Vec<Source>>> {
-    let reasons = Reasons::of(alloc, tables.automaton())?;
-    let mut sources = Vec::new(alloc);
-    for block in blocks {
-        let asked = block.first.cell(tables, lines);
-        sources.push(sources_of(alloc, &reasons, asked)?)?;
-    }
-    Ok(sources)
-}
-
 /// Whether a block is the first one of its state.
 fn begins_state(blocks: &[Block], place: usize) -> bool {
     let before = place.checked_sub(1).and_then(|place| blocks.get(place));
@@ -91,7 +75,6 @@ impl<W: Write, F: Files + AllocGlobal + Clone + Drop> Report<'_, W, F> {
     /// them, and says how many kinds these are.
     fn put_blocks(&mut self, session: &mut Session, blocks: &Blocks) -> io::Result<usize> {
         let list = blocks.list.as_slice();
-        let sources = all_sources(self.alloc, session.tables(), self.lines, list)?;
         let mut seeker = Seeker::new(self.alloc, session)?;
         let mut found = Ambiguities::new(self.alloc);
         for (place, block) in list.iter().enumerate() {
@@ -101,8 +84,7 @@ impl<W: Write, F: Files + AllocGlobal + Clone + Drop> Report<'_, W, F> {
             let finding = seeker.find(&block.first.kind, block.first.group)?;
             let answers = answers_of(self.alloc, &mut seeker, &mut found, &block.first, &finding)?;
             let tables = seeker.session.tables();
-            let sources = sources.get(place).map_or(&[][..], Vec::as_slice);
-            self.put_block(tables, block, sources)?;
+            self.put_block(tables, block)?;
             self.put_finding(tables, block, &finding)?;
             let text = AmbiguityText {
                 grammar: grammar_of(tables),
@@ -129,7 +111,7 @@ impl<W: Write, F: Files + AllocGlobal + Clone + Drop> Report<'_, W, F> {
 
     /// Writes the conflicts of a block, why they are settled so, what leads to the shift of the
     /// first one, and where its token comes from.
-    fn put_block(&mut self, tables: &Tables, block: &Block, sources: &[Source]) -> Made<()> {
+    fn put_block(&mut self, tables: &Tables, block: &Block) -> Made<()> {
         let (path, lines) = (self.path, self.lines);
         BlockText {
             path,
@@ -139,7 +121,9 @@ impl<W: Write, F: Files + AllocGlobal + Clone + Drop> Report<'_, W, F> {
         .put(self.page, block);
         let asked = block.first.cell(tables, lines);
         put_leading(self.alloc, self.page, asked)?;
-        let _ = asked.put_sources(self.page, sources);
+        let reasons = Reasons::of(self.alloc, tables.automaton())?;
+        let sources = sources_of(self.alloc, &reasons, asked)?;
+        let _ = asked.put_sources(self.page, &sources);
         Ok(())
     }
 
