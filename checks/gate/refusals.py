@@ -16,6 +16,11 @@ STALE = re.compile(r"Run the lower steps again")
 NO_NAME = "has no function `"
 
 
+def holder_of(name):
+    """The path of a function that ends in `::`; that of a closure begins with its function's."""
+    return f"{name}::".replace("::fn::", "::").removeprefix("fn::")
+
+
 class Said:
     """What a check said, by the functions and places that its lines name."""
 
@@ -82,12 +87,13 @@ class Said:
         return [it for it in self.errors(function.name) if LOST.search(it)]
 
     def strays(self, functions):
-        """The functions but for some that aren't proved for reasons of their own."""
-        known = {it.name for it in functions}
+        """The functions but for some, and closures in them, that aren't proved for reasons of their
+        own."""
+        known = tuple(f"{it.name}::" for it in functions)
         return [
             name
             for name in self.functions
-            if name not in known and self.is_open(name) and self.has_own(name)
+            if not holder_of(name).startswith(known) and self.is_open(name) and self.has_own(name)
         ]
 
     def has_own(self, name):

@@ -6,6 +6,7 @@ from unittest import mock
 
 from checks.gate import checking, edits, functions, kept, mutants
 from checks.gate.refusals import Said
+from checks.shared.places import TOP
 from checks.tests.fakes import Planted
 
 SOURCE = """//! Numbers of which all is known.
@@ -320,6 +321,37 @@ class Judged(Tiny):
             with mock.patch.object(mutants, "checked", return_value=ran) as checked:
                 self.tried("--anew", "tiny/first_is_nought", "tiny/loses_names")
             self.assertEqual(checked.call_count, {1: 1, 2: 3}[count])
+
+    def test_closures(self):
+        """A closure belongs to its function, at the root and below."""
+        first = self.applied("first_is_nought").touched
+        own = "fn tiny::fn::first::any: no proof: expected it\n"
+        for text, count in ((own, 0), (own.replace("first", "firsts"), 1), (self.OPEN, 0)):
+            self.assertEqual(len(Said(text, "tiny").strays(first)), count, text)
+
+
+class Told(Planted):
+    """The table of mutants in the page on proofs."""
+
+    ROW = re.compile(r"(?m)^\| `(\w+)` \| ([^|]*?) *\| ([^|]*?) *\|$")
+
+    def rows_of(self, text):
+        """The crates of the table, each with what the gate tries and what it leaves out."""
+        table = text[text.index("| crate | tried by the gate |") :].partition("\n\n")[0]
+        return {
+            crate: [sorted(it.split("; ") if it else []) for it in both]
+            for crate, *both in self.ROW.findall(table)
+        }
+
+    def test_rows(self):
+        """Each edit stands there by its name, in the row of its crate and the right column."""
+        wanted, out = {}, mutants.left_out(TOP)
+        for crate in checking.repository(TOP).crates:
+            for edit in edits.edits_of(crate, TOP):
+                name = edit.name.replace("_", " ") + ("*" if edit.by_rt else "")
+                wanted.setdefault(crate, ([], []))[str(edit) in out].append(name)
+        wanted = {crate: [*map(sorted, both)] for crate, both in wanted.items()}
+        self.assertEqual(self.rows_of((TOP / "docs/PROOFS.md").read_text()), wanted)
 
 
 class Keeping(Planted):

@@ -179,11 +179,14 @@ fn is_foreign(bytes: &[u8], trouble: &Unopened<'_>, end: usize) -> bool {
     };
     let at = refusal.placed.at;
     let rest = bytes.get(at..).unwrap_or(&[]);
-    let is_unread = matches!(
-        refusal.placed.fault,
-        GrammarFault::BadLiteral { .. } | GrammarFault::Foreign { .. } | GrammarFault::Syntax { .. }
-    );
-    rest.starts_with(b"//") || is_imported(rest) || (is_unread && at < end)
+    let is_passed = match refusal.placed.fault {
+        GrammarFault::BadNumber { .. } => at <= end,
+        GrammarFault::BadLiteral { .. }
+        | GrammarFault::Foreign { .. }
+        | GrammarFault::Syntax { .. } => at < end,
+        _ => false,
+    };
+    rest.starts_with(b"//") || is_imported(rest) || is_passed
 }
 
 /// A file that `yacc` refuses for this reason.

@@ -2,11 +2,10 @@
 
 use crate::applied::{Changed, applied};
 use crate::note::Note;
-use crate::numbers::Numbered;
 use crate::pieces::Pieces;
 use crate::refusal::{Refusal, Trouble};
 use crate::spelling::Spelling;
-use crate::symbols::{Ended, Expected, Work};
+use crate::symbols::{Ended, Expected, Numbered, Work};
 use std::alloc::Global;
 use std::collections::HashMap;
 use std::mem;

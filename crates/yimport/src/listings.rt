@@ -1,9 +1,8 @@
 //! Lists of tokens.
 
 use crate::note::Reason;
-use crate::numbers::Numbered;
 use crate::refusal::Refusal;
-use crate::symbols::Work;
+use crate::symbols::{Numbered, Work};
 use yforeign::directive::{Directive, is_symbol};
 use yforeign::lexeme::{Kind, Lexeme};
 use yforeign::numbers::{is_hexadecimal, number_of};

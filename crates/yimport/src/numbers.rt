@@ -3,19 +3,10 @@
 
 use crate::note::Reason;
 use crate::refusal::{Refusal, Trouble};
-use crate::symbols::Work;
+use crate::symbols::{Numbered, Work};
 use yforeign::lexeme::{Kind, Lexeme};
 use yforeign::numbers::{ERROR, GREATEST, MOST};
 use ysymbols::names::{intern, is_among};
-
-/// A number that a file gives a token.
-#[derive(Clone, Copy, Drop)]
-pub struct Numbered {
-    /// The token.
-    pub token: Lexeme,
-    /// The number.
-    pub number: usize,
-}
 
 impl Work<'_> {
     /// Why a token of `yacc` can't have a number, where it can't.

@@ -3,7 +3,6 @@
 use crate::applied::Changed;
 use crate::edits::Edits;
 use crate::note::Reason;
-use crate::numbers::Numbered;
 use crate::refusal::{Refusal, Trouble};
 use crate::spelling::{Made, made_name, other_name, unbroken};
 use std::alloc::{AllocError, Global};
@@ -29,6 +28,15 @@ pub struct Ended {
     pub body: usize,
     /// Where the end stands.
     pub span: Span,
+}
+
+/// A number that a file gives a token.
+#[derive(Clone, Copy, Drop)]
+pub struct Numbered {
+    /// The token.
+    pub token: Lexeme,
+    /// The number.
+    pub number: usize,
 }
 
 /// A file while it is imported.

@@ -131,9 +131,10 @@ impl<'a> Gather<'a, '_> {
         };
         for lexeme in rest {
             if let Some(whose) = self.whose(lexeme)? {
-                let mut cares = self.parts.cares.iter();
-                if cares.any(|care| care.deed == deed && care.whose == whose) {
-                    self.second = self.second.or(Some(piece.at));
+                for care in &self.parts.cares {
+                    if care.deed == deed && care.whose == whose {
+                        self.second = self.second.or(Some(piece.at));
+                    }
                 }
                 self.parts.cares.push(Care { deed, whose, piece })?;
             }

@@ -82,8 +82,10 @@ impl<'a> Gather<'a, '_> {
 
     /// Refuses what bison doesn't take beside each other, in a file of bison.
     fn refuse_doubles(&self) -> Result<(), Trouble> {
-        let mut blocks = self.parts.blocks.iter();
-        let has_union = blocks.any(|block| block.target == Target::Union);
+        let mut has_union = false;
+        for block in &self.parts.blocks {
+            has_union = has_union || block.target == Target::Union;
+        }
         for defined in &self.defined {
             if has_union && defined.name == b"api.value.type".as_slice() {
                 return Err(Trouble::Refused(Refusal::Values, defined.at));

@@ -4,7 +4,7 @@ use std::io::{self, Write};
 use ycode::Numbers;
 
 /// How many numbers a line has.
-const IN_A_LINE: usize = 16;
+pub const IN_A_LINE: usize = 16;
 
 /// The smallest type of C that holds a number, and all from 0 to it.
 pub fn type_of(greatest: usize) -> &'static str {

@@ -120,9 +120,10 @@ yyloop:
   yyn = yyrow[yystate] + yytoken;
   if (yycheck[yyn] != yytoken)
     {
-      if (!YYMEMBER (yystate, yytoken))
-        goto yyerrlab;
+      /* Rule 0 is never reduced: a state without reductions has it. */
       yyn = yyusual[yystate];
+      if (yyn == 0 || !YYMEMBER (yystate, yytoken))
+        goto yyerrlab;
       goto yyreduce;
     }
   yyn = yyvalue[yyn];
@@ -135,7 +136,7 @@ yyloop:
         goto yyreduce;
 @if bison
       /* The end is an entry of bison's stack. */
-      if (yydepth <= 3 && yydepth >= YYMAXDEPTH)
+      if (yyssp + 1 == yysslast && yydepth >= YYMAXDEPTH)
         YYNOMEM;
 @end
       YYSTEP ('a', 0);
@@ -234,10 +235,10 @@ yygrow:
         YYFREE (yynewvs);
         YYNOMEM;
       }
-    YYMOVE (yynewls, yyls, yyused);
+    memcpy (YY_CAST (void *, yynewls), YY_CAST (const void *, yyls), yyused * sizeof *yynewls);
 @end
-    YYMOVE (yynewss, yyss, yyused);
-    YYMOVE (yynewvs, yyvs, yyused);
+    memcpy (yynewss, yyss, yyused * sizeof *yynewss);
+    memcpy (YY_CAST (void *, yynewvs), YY_CAST (const void *, yyvs), yyused * sizeof *yynewvs);
     if (yyss != yyssa)
       {
         YYFREE (yyss);

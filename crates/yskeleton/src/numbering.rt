@@ -44,7 +44,7 @@ fn free_above(numbers: &[Option<usize>], greatest: usize) -> usize {
     let first = greatest.max(ERROR_NUMBER).saturating_add(1);
     let most = first.saturating_add(numbers.len());
     for number in first..most {
-        if !numbers.iter().any(|taken| *taken == Some(number)) {
+        if !numbers.contains(&Some(number)) {
             return number;
         }
     }

@@ -1,6 +1,6 @@
 //! The tables of a parser in C, and how they are read.
 
-use crate::arrays::{put_array, put_list, type_of};
+use crate::arrays::{IN_A_LINE, put_array, put_list, type_of};
 use crate::declared::is_c_name;
 use crate::skeleton::Skeleton;
 use crate::text::{Text, put_inner, put_quoted};
@@ -106,11 +106,22 @@ impl<'a> Skeleton<'a> {
     /// Writes the array of what tokens are called by their numbers, as byacc has it.
     fn put_numbered(&self, out: &mut Text<'_>) -> io::Result<()> {
         out.add(b"static const char *const yyname[] = {\n")?;
+        let mut nulls: usize = 0;
         for token in &self.numbering.array {
             if *token < self.code.tokens {
+                if nulls % IN_A_LINE != 0 {
+                    out.add(b"\n")?;
+                }
+                nulls = 0;
                 self.put_item(out, *token, Spelled::Quoted)?;
             } else {
-                out.add(b"  YY_NULLPTR,\n")?;
+                nulls = nulls.saturating_add(1);
+                let is_last = nulls % IN_A_LINE == 0;
+                out.add(if is_last {
+                    b" YY_NULLPTR,\n"
+                } else {
+                    b" YY_NULLPTR,"
+                })?;
             }
         }
         out.add(b"  \"illegal-symbol\"\n};\n")

@@ -124,20 +124,6 @@ pub const WORDS: &str = r##"
 #ifndef YYFREE
 # define YYFREE free
 #endif
-/* Copies entries to memory that has none yet. */
-#ifdef __cplusplus
-# define YYMOVE(To, From, N) \
-  memcpy (static_cast<void *> (To), static_cast<const void *> (From), (N) * sizeof *(To))
-#else
-# define YYMOVE(To, From, N) \
-  do \
-    { \
-      size_t yyi; \
-      for (yyi = 0; yyi < (N); ++yyi) \
-        (To)[yyi] = (From)[yyi]; \
-    } \
-  while (0)
-#endif
 @if locations
 #ifndef YYRHSLOC
 # define YYRHSLOC(Rhs, K) ((Rhs)[K])

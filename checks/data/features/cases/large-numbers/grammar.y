@@ -5,13 +5,12 @@ static void yyerror (const char *what);
 %}
 %token A 32768 B 40000 C 65534 D 65535 E 70000 F 100000
 %%
-all : A { printf ("A %d\n", A); }
-    | B { printf ("B %d\n", B); }
-    | C { printf ("C %d\n", C); }
-    | D { printf ("D %d\n", D); }
-    | E { printf ("E %d\n", E); }
-    | F { printf ("F %d\n", F); }
-    | A A
+all : A ';' { printf ("A %d\n", A); }
+    | B ';' { printf ("B %d\n", B); }
+    | C ';' { printf ("C %d\n", C); }
+    | D ';' { printf ("D %d\n", D); }
+    | E ';' { printf ("E %d\n", E); }
+    | F ';' { printf ("F %d\n", F); }
     ;
 %%
 /* A letter is a token by its name; other input is a token by its number. */

@@ -1,0 +1,4 @@
+%token A
+%nterm A
+%%
+s : A ;
