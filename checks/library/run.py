@@ -157,6 +157,8 @@ def compare_module(folder, tally):
     count("handles", python(folder, SOURCES / "handles.py", 1, 300), tally)
     files = (it for at in EXAMPLES.glob("*/tokens") for it in (at.with_name("grammar.y"), at))
     count("expected", python(folder, SOURCES / "expected.py", 1, 150, *files), tally)
+    grammars = sorted(EXAMPLES.glob("*/grammar.y"))
+    count("arrays", python(folder, SOURCES / "arrays.py", 1, 150, *grammars), tally)
 
 
 def examples_of(text):
