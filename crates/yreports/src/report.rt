@@ -97,6 +97,19 @@ impl<W: Write, F: Files + AllocGlobal + Clone + Drop> Report<'_, W, F> {
         Ok(blocks.kinds)
     }
 
+    /// Writes how many conflicts there are, and what they come from.
+    fn put_counted(&mut self, tables: &Tables, found: &Conflicts) -> io::Result<()> {
+        self.page.put(self.path);
+        if found.cells == 0 {
+            self.page.line(": no conflicts");
+        } else {
+            self.page.put(": ");
+            put_counts(self.page, tables, found);
+            self.put_causes(tables, found)?;
+        }
+        self.page.checked()
+    }
+
     /// Writes what the conflicts come from, where there are several kinds.
     fn put_causes(&mut self, tables: &Tables, found: &Conflicts) -> io::Result<()> {
         let text = CauseText {
@@ -217,15 +230,7 @@ fn put_lists<'a, W: Write, F: Files + AllocGlobal + Clone + Drop>(
         },
         splits: MOST_SPLITS,
     };
-    report.page.put(asked.grammar);
-    if found.cells == 0 {
-        report.page.line(": no conflicts");
-    } else {
-        report.page.put(": ");
-        put_counts(report.page, session.tables(), found);
-        report.put_causes(session.tables(), found)?;
-    }
-    report.page.checked()?;
+    report.put_counted(session.tables(), found)?;
     report.folder.clear()?;
     if found.cells > 0 {
         report.folder.make()?;
