@@ -5,10 +5,10 @@
 ROOT holds scenarios, or is a page that tells some, NAME.md; without one, all of the repository are
 meant. NAME is one below a root, or a folder of some. PATH is a built program; without one,
 crates/PROGRAM/out/PROGRAM. With --try the programs are built by `rt try`, without proof; with
---or-try where one that is used is older than a file of crates/ or crates.txt. `rt try` has no links
-and no streams: a scenario that needs them is skipped then, and named. --accept keeps what comes
-back of the named scenarios as what is wanted, and marks them unread. docs/FORMATS.md says what a
-scenario is. The last line is `N passed, M failed`.
+--or-try where one that is used is older than a file of crates/ or crates.txt. `rt try` has no links,
+no streams, and limits of its own: a scenario that needs or meets these is skipped then, and named.
+--accept keeps what comes back of the named scenarios as what is wanted, and marks them unread.
+docs/FORMATS.md says what a scenario is. The last line is `N passed, M failed`.
 """
 import argparse
 import os
@@ -133,6 +133,9 @@ class Run:
 
     def judge(self, scenario, made):
         """Compares what came back with what is wanted, or keeps it."""
+        if isinstance(made, tried.Unanswered):
+            print(f"skipped: {scenario.folder}: {made}")
+            return
         if isinstance(made, Fault):
             self.tally.take(scenario.folder, [f"{made}\n"])
             return
