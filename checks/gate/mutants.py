@@ -8,9 +8,9 @@ Without names it takes what the gate takes: the edits in `edits/CRATE` but those
 
 Each function is proved against its own contract alone. So the edits of a crate that touch different
 functions go into one check, and an edit is refused where a goal of a function that it touches stays
-open. An edit of anything else goes alone. One that is not applied, not compiled, of which only
-proof files know by names that it took away, or whose check was killed is BAD and fails, as one does
-that is PROVED.
+open. An edit of anything else goes alone. One that is not applied or not compiled, that is refused
+only because a proof file names what it took away, or whose check was killed is BAD and fails, as
+one does that is PROVED.
 
 It checks over the libraries that a proof left in `crates/NAME/out/rlib`, or over those in FOLDER.
 The crates must be proved as they stand. What is refused is kept on this machine by the sums of all

@@ -10,7 +10,12 @@ LINE = re.compile(r"fn (\S+): (.*)")
 PLACE = re.compile(r"(note: )?(?:\./)?((?:src|specs|proofs)/\S+?):(\d+):\d+: (.*)")
 CALLEE = "it calls "
 LOST = re.compile(r"has no field|is not in scope|has no `|was not admitted")
-UNREAD = "antt did not admit its contract"
+# What is said of a text of src/ that can't be read, as rt has it; of a goal another thing is said.
+GOAL = re.compile(r"error: `[^`]*`: ")
+UNREAD = re.compile(
+    r"is not in scope|has no field|is no name|operand is missing|expected the end|cannot continue"
+)
+NO_CONTRACT = "antt did not admit its contract"
 NO_COMPILE = re.compile(r"\berror\[[\w-]+\]")
 STALE = re.compile(r"Run the lower steps again")
 NO_NAME = "has no function `"
@@ -19,6 +24,11 @@ NO_NAME = "has no function `"
 def holder_of(name):
     """The path of a function that ends in `::`; that of a closure begins with its function's."""
     return f"{name}::".replace("::fn::", "::").removeprefix("fn::")
+
+
+def is_unread(text):
+    """Whether an error in a source file says that its text can't be read."""
+    return not GOAL.match(text) or bool(UNREAD.search(re.sub(r"`[^`]*`", "", text)))
 
 
 class Said:
@@ -50,11 +60,16 @@ class Said:
         return [it for it in told.split("; ") if it and not it.startswith(CALLEE)]
 
     def notes(self, function):
-        """Notes on goals at places in the function."""
+        """What is said of goals at places in the function."""
+        here = [
+            it
+            for it in self.places
+            if it[2] == function.path and function.has(int(it[3]) - 1)
+        ]
         return [
             f"{it[2]}:{it[3]}: {it[4]}"
-            for it in self.places
-            if it[1] and it[2] == function.path and function.has(int(it[3]) - 1)
+            for it in here
+            if it[1] or it[4].startswith("error: ") and not is_unread(it[4])
         ]
 
     def errors(self, name):
@@ -71,7 +86,7 @@ class Said:
         return [
             it[0]
             for it in self.places
-            if not it[1] and it[2] in paths and re.match(r"error\b", it[4])
+            if not it[1] and it[2] in paths and re.match(r"error\b", it[4]) and is_unread(it[4])
         ]
 
     def open_goals(self, function):
@@ -79,7 +94,7 @@ class Said:
         if not self.is_open(function.name):
             return []
         errors = [it for it in self.errors(function.name) if not LOST.search(it)]
-        reasons = [it for it in self.reasons(function.name) if UNREAD not in it]
+        reasons = [it for it in self.reasons(function.name) if NO_CONTRACT not in it]
         return self.notes(function) + errors + reasons
 
     def lost_names(self, function):

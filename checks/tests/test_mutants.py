@@ -279,6 +279,7 @@ class Judged(Tiny):
             "fn tiny::second: proved\n": "BAD",
             "src/lib.rt:14:5: error[mismatched-types]: expected `u64`\n": "BAD",
             "src/lib.rt:11:5: error: `x` is not in scope\n" + self.OPEN: "BAD",
+            "src/lib.rt:14:5: error: `returns`: no proof of it\n" + self.CALLS: "refused",
             "it says nothing\n": "BAD",
             "": "BAD",
             "antt: module 'Rattle-low-x' differs. Run the lower steps again\n" + self.OPEN: "BAD",
