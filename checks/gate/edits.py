@@ -8,7 +8,7 @@ import re
 from dataclasses import dataclass, field
 from pathlib import Path
 
-from checks.gate.functions import functions_in
+from checks.gate.functions import functions_in, homes_in
 
 PARTS = "src", "specs", "proofs"
 
@@ -98,19 +98,35 @@ def texts_after(edit, folder):
     return before, after
 
 
-def touched_in(path, before, lines, cited):
+def touched_in(path, before, lines, known):
     """The functions in whose bodies some lines of a file are; None where one is anywhere else."""
     found = []
     for line in lines:
         if re.match(r"(pub )?use ", before[line]):
             continue
-        around = [it for it in functions_in(path, "\n".join(before)) if it.has(line)]
-        if not around or around[-1].is_in_a_cycle or around[-1].name in cited:
+        around = [it for it in functions_in(path, "\n".join(before), known.homes) if it.has(line)]
+        if not around or around[-1].is_in_a_cycle or around[-1].name in known.cited:
             return None
         if line <= around[-1].body < around[-1].last:
             return None
         found.append(around[-1])
     return found
+
+
+@dataclass
+class Known:
+    """What is known of a crate before its edits are read: the modules of its types, and the
+    functions whose theorems its own proof files name outside their folders."""
+
+    homes: dict
+    cited: set
+
+
+def known_of(folder):
+    """What is known of a crate."""
+    files = sorted((folder / "src").rglob("*.rt"))
+    texts = {str(it.relative_to(folder)): it.read_text() for it in files}
+    return Known(homes_in(texts), cited_in(folder))
 
 
 def cited_in(folder):
@@ -124,7 +140,7 @@ def cited_in(folder):
     return found
 
 
-def applied(edit, folder, cited=frozenset()):
+def applied(edit, folder, known):
     """What an edit changes in its crate's texts."""
     before, after = texts_after(edit, folder)
     made, touched = Applied(edit, {}), []
@@ -132,7 +148,7 @@ def applied(edit, folder, cited=frozenset()):
         lines, others = before[path].split("\n"), text.split("\n")
         changed = [at for at, line in enumerate(lines) if line != others[at]]
         made.lines |= {(path, at): others[at] for at in changed}
-        found = touched_in(path, lines, changed, cited) if path.startswith("src/") else None
+        found = touched_in(path, lines, changed, known) if path.startswith("src/") else None
         touched = None if touched is None or found is None else touched + found
     made.touched = [*dict.fromkeys(touched or [])]
     return made

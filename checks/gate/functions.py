@@ -4,12 +4,14 @@ An item ends at the first line after its head that begins with a brace in the it
 function without a body ends before the next line in that column.
 """
 import re
+from collections import Counter
 from dataclasses import dataclass
 from pathlib import PurePosixPath
 
 SHOWN = r'( *)(?:pub(?:\([^)]*\))? )?(?:const )?(?:unsafe )?(?:extern "C" )?'
 FUNCTION = re.compile(rf"{SHOWN}fn (\w+)")
 HOLDER = re.compile(rf"{SHOWN}(impl|trait|mod)\b *(.*) \{{$")
+TYPE = re.compile(rf"(?m)^{SHOWN}(?:struct|enum|trait) (\w+)")
 # What stands in a function's own column before its body ends.
 INNER = ("{", ")", "where")
 
@@ -117,8 +119,15 @@ def attributes_above(lines, head):
     return lines[at:head]
 
 
-def functions_in(path, text):
-    """The functions of a file, in order."""
+def homes_in(texts):
+    """The module of each type that a crate's files, texts by their paths, define once."""
+    found = [(it[2], path) for path, text in texts.items() for it in TYPE.finditer(text)]
+    counts = Counter(name for name, _ in found)
+    return {name: module_of(path) for name, path in found if counts[name] == 1}
+
+
+def functions_in(path, text, homes):
+    """The functions of a file, in order; methods of a type stand in the module of the type."""
     lines, holders, found = text.split("\n"), [], []
     for at, line in enumerate(lines):
         holders = [it for it in holders if at <= it[0]]
@@ -127,8 +136,9 @@ def functions_in(path, text):
             what = name_of_impl(holder[3]) if holder[2] == "impl" else base_of(holder[3])
             holders.append((end_of(lines, at), what))
         elif function:
-            last = end_of(lines, at)
-            name = "::".join([*module_of(path), *(it for _, it in holders), function[2]])
+            last, names = end_of(lines, at), [it for _, it in holders]
+            module = homes.get(names[0], module_of(path)) if names else module_of(path)
             cycle = any("#[cycle" in it for it in attributes_above(lines, at))
+            name = "::".join([*module, *names, function[2]])
             found.append(Function(path, name, at, body_of(lines, at, last), last, cycle))
     return found

@@ -28,7 +28,7 @@ from dataclasses import dataclass
 from pathlib import Path
 
 from checks.gate.checking import check_words, repository, run
-from checks.gate.edits import PARTS, Bad, applied, cited_in, edits_of, grouped, laid
+from checks.gate.edits import PARTS, Bad, applied, edits_of, grouped, known_of, laid
 from checks.gate.kept import Kept, kit, store, sum_of_crate
 from checks.gate.lanes import lanes
 from checks.gate.refusals import LOST, NO_NAME, STALE, Said
@@ -189,7 +189,7 @@ class Trial:
     def ready(self, crate, edits):
         """The groups of a crate's edits that are to be tried; the others are told."""
         lacking = [it for it in crate.below if not (self.repo.library(it) / "format").is_file()]
-        words, known, found = check_words(self.repo, crate, []), cited_in(crate.folder), []
+        words, known, found = check_words(self.repo, crate, []), known_of(crate.folder), []
         if not lacking:
             made = sum_of_crate(crate.folder, words[1:], map(self.repo.library, crate.below))
         for edit in edits:
@@ -229,9 +229,10 @@ def plan(repo, edits):
     tally = Tally()
     for name in dict.fromkeys(it.crate for it in edits):
         folder, made = repo.crates[name].folder, []
+        known = known_of(folder)
         for edit in (it for it in edits if it.crate == name):
             try:
-                made.append(applied(edit, folder, cited_in(folder)))
+                made.append(applied(edit, folder, known))
                 tally.add(1, 0)
             except Bad as why:
                 tally.take(edit, [f"{why}\n"])

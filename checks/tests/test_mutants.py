@@ -87,6 +87,7 @@ class Tiny(Planted):
     def setUp(self):
         """Lays the crate out."""
         super().setUp()
+        self.folder = self.room / "crates/tiny"
         self.lay("crates.txt", "tiny:\n")
         self.lay("crates/tiny/src/lib.rt", SOURCE)
         self.lay("crates/tiny/proofs/least/Answers.antt", PROOF)
@@ -107,7 +108,7 @@ class Tiny(Planted):
     def applied(self, name):
         """An edit of the crate, applied."""
         found = {it.name: it for it in edits.edits_of("tiny", self.room)}
-        return edits.applied(found[name], self.room / "crates/tiny")
+        return edits.applied(found[name], self.folder, edits.known_of(self.folder))
 
 
 class Tried(Tiny):
@@ -179,12 +180,12 @@ class Laid(Tiny):
 
     def test_cited(self):
         """A function whose theorem another proof names, or that is in a cycle, goes alone."""
-        self.assertEqual(edits.cited_in(self.room / "crates/tiny"), set())
+        self.assertEqual(edits.cited_in(self.folder), set())
         self.lay("crates/tiny/proofs/Other.antt", "use Rattle.tiny.proofs.first.Met.{met}\n")
-        cited = edits.cited_in(self.room / "crates/tiny")
-        self.assertEqual(cited, {"first"})
-        found = {it.name: it for it in edits.edits_of("tiny", self.room)}["first_is_nought"]
-        self.assertFalse(edits.applied(found, self.room / "crates/tiny", cited).touched)
+        self.assertEqual(edits.cited_in(self.folder), {"first"})
+        self.assertFalse(self.touched("first_is_nought"))
+        (self.folder / "proofs/Other.antt").unlink()
+        self.assertEqual(self.touched("first_is_nought"), ["first"])
         source = SOURCE.replace("pub fn first", "#[cycle(x)]\npub fn first")
         self.lay("crates/tiny/src/lib.rt", source)
         self.assertFalse(self.touched("first_is_nought"))
@@ -226,6 +227,18 @@ class Functions(unittest.TestCase):
         for text, name in self.IMPLS.items():
             self.assertEqual(functions.name_of_impl(text), name)
 
+    def test_homes(self):
+        """A method stands where its type does, and a function and one of a trait's where they do."""
+        texts = {
+            "src/a.rt": "pub struct Row;\nenum Twice {}\n",
+            "src/b.rt": "impl Row {\n    fn len(&self) {}\n}\nimpl Twice {\n    fn it() {}\n}\n"
+            "impl Drop for Row {\n    fn drop(self) {}\n}\nfn row() {}\nstruct Twice;\n",
+        }
+        homes = functions.homes_in(texts)
+        found = functions.functions_in("src/b.rt", texts["src/b.rt"], homes)
+        names = ["a::Row::len", "b::Twice::it", "a::Row::drop", "b::row"]
+        self.assertEqual([it.name for it in found], names)
+
     def test_ends(self):
         """A function ends with its brace, one without a body before the next item."""
         text = """trait Rows {
@@ -244,7 +257,7 @@ class Functions(unittest.TestCase):
     }
 }
 fn last() {}"""
-        found = functions.functions_in("src/a/rows.rt", text)
+        found = functions.functions_in("src/a/rows.rt", text, {})
         names = [f"a::rows::{it}" for it in ("Rows::row", "Rows::other", "last")]
         self.assertEqual([it.name for it in found], names)
         lines = [(it.first, it.body, it.last) for it in found]
