@@ -46,7 +46,7 @@ def store():
 
 def of_files(files):
     """What tells files apart: their names and their bytes."""
-    return repr([(str(it), Path(it).read_bytes()) for it in files]).encode()
+    return repr([(Path(it).name, Path(it).read_bytes()) for it in files]).encode()
 
 
 def sum_of_kit():
@@ -66,7 +66,7 @@ def sum_of_tool():
 
 
 def sum_of_crate(folder, words, libraries):
-    """A sum of a crate: the words of its check, its files, and its libraries as they were built."""
+    """A sum of a crate: words on it, its files, and its libraries as they were built."""
     files = [it for part in PARTS for it in sorted((folder / part).rglob("*")) if it.is_file()]
     made = hashlib.sha256(repr(words).encode())
     for file in files:

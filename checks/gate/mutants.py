@@ -189,9 +189,10 @@ class Trial:
     def ready(self, crate, edits):
         """The groups of a crate's edits that are to be tried; the others are told."""
         lacking = [it for it in crate.below if not (self.repo.library(it) / "format").is_file()]
-        words, known, found = check_words(self.repo, crate, []), known_of(crate.folder), []
+        known, found = known_of(crate.folder), []
+        words = [crate.name, *crate.kind, "over", *crate.ours, "and", *crate.of_kit]
         if not lacking:
-            made = sum_of_crate(crate.folder, words[1:], map(self.repo.library, crate.below))
+            made = sum_of_crate(crate.folder, words, map(self.repo.library, crate.below))
         for edit in edits:
             try:
                 one = applied(edit, crate.folder, known)
