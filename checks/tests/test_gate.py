@@ -152,7 +152,7 @@ class Clock(Planted):
     BEGINNER = """
 import subprocess, threading
 def check(*words):
-    subprocess.run(["kit/rattle", "-c", "sleep 0.3; :", *words], executable="/bin/sh")
+    subprocess.run(["kit/rattle", "-c", "sleep 0.5; :", *words], executable="/bin/sh")
 lanes = [threading.Thread(target=check, args=("--crate-name", it)) for it in ("low", "other")]
 for it in lanes: it.start()
 for it in lanes: it.join()
@@ -166,14 +166,12 @@ check("--crate-name", "high", "--test")
         looking = clock.Clock(running.pid, 0.03)
         running.wait()
         seen = looking.stop()
-        # A shell that forks looks like two for a moment.
-        longest = {}
-        for one in seen:
-            kind = one.crate, one.kind
-            longest[kind] = max(longest.get(kind, 0.0), one.ended - one.began)
+        kinds = sorted((it.crate, it.kind) for it in seen)
         proofs = [(it, clock.PROOF) for it in ("high", "low", "other")]
-        self.assertEqual(set(longest), {*proofs, ("high", clock.TESTS)})
-        self.assertGreater(min(longest.values()), 0.1)
+        self.assertEqual(kinds, sorted([*proofs, ("high", clock.TESTS)]))
+        began = {it.crate: it.began for it in seen if it.kind == clock.PROOF}
+        self.assertLess(max(began["low"], began["other"]), began["high"])
+        self.assertTrue(all(it.began < it.ended for it in seen), seen)
 
     def test_kinds(self):
         """Words and folders say what a check is for, and another program is none."""
