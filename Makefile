@@ -171,6 +171,7 @@ define copies
 644 drivers/python/calculator.py $(shared)/calculator.py
 644 drivers/calculator.y $(shared)/calculator.y
 644 docs/TUTORIAL.md $(books)/TUTORIAL.md
+644 docs/MANUAL.md $(books)/MANUAL.md
 644 docs/FORMATS.md $(books)/FORMATS.md
 644 docs/FAULTS.md $(books)/FAULTS.md
 644 packaging/examples/CMakeLists.txt $(books)/examples/CMakeLists.txt

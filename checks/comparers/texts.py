@@ -51,14 +51,14 @@ JUNK = ["!", "\u00e9", "\x01", "@@", "\\", "'", "#x\n", "~"]
 SESSION = "where\nrun until error\nupcoming\ninsert NUM\nback 3\nwhere\nreload\nrun\nupcoming\n"
 # What may be said of a SPEC or a text that was spoiled.
 NAMED = re.compile(
-    r"grammar\.y:\d+: \S+: no line of spec gives this token; write one, or name it after %none"
-    r"|spec:\d+:\d+: (the expression doesn't compile: .+|the expression matches the empty text"
+    r"grammar\.y:\d+:\d+: error: \S+: no line of spec gives this token; write one, or name it after %none"
+    r"|spec:\d+:\d+: error: (the expression doesn't compile: .+|the expression matches the empty text"
     r"|nothing stands after the name|this line is no text in UTF-8"
     r"|no token of the grammar has this name"
     r"|an input has tokens alone, and neither error nor \$end"
     r"|no directive of a SPEC; there are %skip, %keywords and %none)"
-    r"|text:\d+:\d+: (no line of the SPEC matches here: .+|unexpected (\S+|\".+\")[,;] .+)"
-    r"|text: (accepted after \d+ steps|undecided after 1,000,000 steps)"
+    r"|text:\d+:\d+: error: (no line of the SPEC matches here: .+|unexpected (\S+|\".+\")[,;] .+)"
+    r"|text: (accepted after \d+ steps|error: undecided after 1,000,000 steps)"
 )
 
 
@@ -234,7 +234,7 @@ def answer(tables, spec, text):
     if tokens is None:
         line, column = spot(text, end)
         what = f"no line of the SPEC matches here: {shown_bytes(text[end:])}"
-        return f"text:{line}:{column}: {what}\n" + shown_line(text, end)
+        return f"text:{line}:{column}: error: {what}\n" + shown_line(text, end)
     symbols = [it for it, _ in tokens]
     ended = parsed(tables, symbols)
     if not ended:
@@ -246,7 +246,7 @@ def answer(tables, spec, text):
     ahead, at = tokens[taken] if taken < len(tokens) else (END, end)
     line, column = spot(text, at)
     called = spec.called(ahead)
-    said = f"text:{line}:{column}: unexpected {called}{wanted}\n" + shown_line(text, at)
+    said = f"text:{line}:{column}: error: unexpected {called}{wanted}\n" + shown_line(text, at)
     return said if wanted else None
 
 

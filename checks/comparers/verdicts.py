@@ -44,7 +44,7 @@ def session_says(ystep, grammar, tokens):
 
 def refusal(message):
     """The code and the line of a refused grammar file, as a session says them."""
-    line, code = re.search(r":(?:(\d+):)? (\w+): ", message).groups()
+    line, code = re.search(r":(?:(\d+):\d+:)? error: (\w+): ", message).groups()
     if code == "G13":  # `ydebug` says which rule is above a limit, a session line 1
         line = 1
     return f"{code} at line {line}" if line else code

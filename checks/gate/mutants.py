@@ -31,7 +31,7 @@ from checks.gate.checking import check_words, repository, run
 from checks.gate.edits import PARTS, Bad, applied, edits_of, grouped, known_of, laid
 from checks.gate.kept import Kept, kit, store, sum_of_crate
 from checks.gate.lanes import lanes
-from checks.gate.refusals import LOST, NO_NAME, STALE, Said
+from checks.gate.refusals import LOST, NO_CONTRACT, NO_NAME, STALE, Said
 from checks.shared.arguments import asked
 from checks.shared.places import TOP
 from checks.shared.tally import Tally
@@ -112,6 +112,10 @@ def judged(one, ran, said):
     if lost:
         return Verdict(BAD, f"names lost: {lost[0]}")
     told = [said.functions.get(it.name, "no line tells of it") for it in one.touched]
+    unread = next((it for it in told if NO_CONTRACT in it), None)
+    if unread:
+        # Its contract names what a library of another state lacks, say.
+        return Verdict(BAD, f"contract not read: {unread}")
     if all(it.startswith(("proved", "no proof", "not proved")) for it in told):
         callee = next((it for it in told if "it calls" in it), "")
         return Verdict(PROVED, callee)

@@ -28,7 +28,7 @@ test : value "<=" value | "not" test ;
 value : NUM | NAME | '(' value ')' ;
 """
 INPUT = re.compile(r"(?m)^(.+)\n## state")
-REJECTED = re.compile(rb"input: rejected at token \d+: (.*?)\n  (?:after|at the start)", re.DOTALL)
+REJECTED = re.compile(rb"input: error: rejected at token \d+: (.*?)\n  (?:after|at the start)", re.DOTALL)
 
 
 def grammars():

@@ -10,7 +10,7 @@ from checks.shared.spelling import names_of
 # The most steps of a parse that are compared.
 MOST = 20_000
 DIGEST = re.compile(rb"a table with the digest ([0-9a-f]{8})\n")
-SAID = re.compile(rb"tokens: rejected at token \d+: (.*?)(?:; can't tell of .*)?\n")
+SAID = re.compile(rb"tokens: error: rejected at token \d+: (.*?)(?:; can't tell of .*)?\n")
 
 
 class Case(NamedTuple):

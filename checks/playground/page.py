@@ -238,7 +238,7 @@ def try_texts(count, page, module):
     files = {"grammar.y": texts["grammar"], "input": texts["tokens"], "spec": texts["spec"]}
     words = ["grammar.y", "--lex", "spec", "input"]
     said = module.told(["check", *words], files)["out"]
-    line, column = map(int, re.match(r"input:(\d+):(\d+): unexpected FROM", said).groups())
+    line, column = map(int, re.match(r"input:(\d+):(\d+): error: unexpected FROM", said).groups())
     shown = page.text("check")
     count.hold("what was expected", shown == said.removeprefix("input: ").rstrip("\n"), shown)
     top = page.browser.run("return document.querySelector('#tokens-editor .bubble').style.top")

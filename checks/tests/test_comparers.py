@@ -336,7 +336,7 @@ class Texts(OverTexts):
 
     def test_right(self):
         """What is right is no fault; the column and the tokens that can come are these."""
-        wanted = "text:2:3: unexpected NUM, expected $end or '+'\n    2 3 +\n      ^\n"
+        wanted = "text:2:3: error: unexpected NUM, expected $end or '+'\n    2 3 +\n      ^\n"
         self.assertEqual(texts.answer(self.tables, self.spec, b"1 +\n2 3 +\n"), wanted)
         self.assertIsNone(self.fault())
 
@@ -365,7 +365,7 @@ class Texts(OverTexts):
 
     def test_spoiled(self):
         """A refusal by a name that isn't one, and a status that isn't one, are faults."""
-        good = "text:1:1: no line of the SPEC matches here: !\n"
+        good = "text:1:1: error: no line of the SPEC matches here: !\n"
         wrong = (1, "it fails\n", ""), (2, good, ""), (1, "", ""), (1, good, good)
         for answer, found in (((1, good, ""), False), *((it, True) for it in wrong)):
             (self.room / "spec").write_text(self.spec.text())

@@ -289,6 +289,7 @@ class Judged(Tiny):
             "fn tiny::first: proved\n": "PROVED",
             f"{self.FILE}module `M` has no `returns`\n{not_proved}": "BAD",
             "fn tiny::first: could not tell\n": "BAD",
+            "fn tiny::first: no proof: antt did not admit its contract or its `statement`\n": "BAD",
             "fn tiny::second: proved\n": "BAD",
             "src/lib.rt:14:5: error[mismatched-types]: expected `u64`\n": "BAD",
             "src/lib.rt:11:5: error: `x` is not in scope\n" + self.OPEN: "BAD",

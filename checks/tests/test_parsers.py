@@ -173,7 +173,7 @@ class Drivers(Planted):
 
     def test_verdicts(self):
         """What a verdict says of an error."""
-        told = b"tokens: rejected at token 2: unexpected 'x', expected $end; can't tell of 'y'\n  after"
+        told = b"tokens: error: rejected at token 2: unexpected 'x', expected $end; can't tell of 'y'\n  after"
         self.assertEqual(said_in(told), "unexpected 'x', expected $end")
         self.assertEqual(said_in(b"tokens: accepted after 3 steps\n"), "")
         self.assertIsNone(said_in(b"tokens: undecided after 1,000,000 steps\n"))

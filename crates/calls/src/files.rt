@@ -6,11 +6,11 @@ use clap::error::ErrorKind as WordsKind;
 use std::alloc::Global;
 use std::fs;
 use std::io::ErrorKind;
+use ygenerate::arguments::{YstepWords, ystep_words};
 use ygrammar::{Grammar, GrammarFault, read_grammar};
 use ylalr::{Automaton, BuildFault, build};
 use yparse::{TokenFault, Tokens, read_tokens};
 use ytables::{Tables, resolve};
-use ywords::arguments::{YstepWords, ystep_words};
 
 /// A call that takes memory.
 #[derive(Clone, Copy)]

@@ -1,7 +1,7 @@
 //! The numbers of conflicts that the comments of a grammar file expect: `/* %expect 1 */`.
 
 use std::str;
-use yfaults::shown::Place;
+use yfiles::place::Place;
 use yforeign::lexeme::Span;
 use yimport::symbols::Expected;
 use ylexemes::front::part_at;
@@ -143,7 +143,7 @@ impl Numbers {
             at,
         };
         let span = Span {
-            line: place.spot().0,
+            line: place.spot().line,
             from: at,
             to: at.saturating_add(text.len()),
         };

@@ -1,9 +1,11 @@
 //! Numbers of conflicts that are expected, beside those that are counted.
 
 use crate::comments::Numbers;
+use std::alloc::Global;
 use std::io::{self, Write};
 pub use ybison::compared::Counts;
 use ybison::notes::Source;
+use yfiles::diagnostic::{Diagnostic, Diagnostics, Severity};
 use yimport::symbols::Expected;
 
 /// The numbers of conflicts that are expected, and who expects them.
@@ -32,8 +34,14 @@ pub fn numbers_in(word: &str) -> Option<Counts> {
 /// A kind of conflict: its word in a file, and its name.
 const KINDS: [(&str, &str); 2] = [("%expect", "shift/reduce"), ("%expect-rr", "reduce/reduce")];
 
-/// Writes where the numbers of an option aren't those that were counted, and says whether they are.
-fn is_given<W: Write>(out: &mut W, path: &str, given: Counts, found: Counts) -> io::Result<bool> {
+/// Tells where the numbers of an option aren't those that were counted, and says whether they are.
+fn is_given(
+    alloc: Global,
+    told: &mut Diagnostics,
+    path: &str,
+    given: Counts,
+    found: Counts,
+) -> io::Result<bool> {
     let Counts {
         shift_reduce: shifts,
         reduce_reduce: reduces,
@@ -43,10 +51,13 @@ fn is_given<W: Write>(out: &mut W, path: &str, given: Counts, found: Counts) -> 
         ("reduce/reduce", reduces, found.reduce_reduce),
     ] {
         if wanted != counted {
-            writeln!(
-                out,
-                "{path}: --expect {shifts},{reduces}: {kind} conflicts: {counted}"
+            let mut one = Diagnostic::new(alloc, Some(path), None)?;
+            one.severity = Severity::Warning;
+            write!(
+                one.message,
+                "--expect {shifts},{reduces}: {kind} conflicts: {counted}"
             )?;
+            told.add(one)?;
         }
     }
     Ok(given == found)
@@ -75,42 +86,45 @@ impl Compared {
         }
     }
 
-    /// Writes that the number isn't the expected one, where that isn't told.
-    fn put<W: Write>(self, out: &mut W, source: Source<'_>) -> io::Result<()> {
-        let (path, counted) = (source.path, self.counted);
-        let (word, kind) = KINDS.get(self.kind).copied().unwrap_or(("", ""));
-        let other = KINDS.iter().rev().nth(self.kind);
-        let other_word = other.map_or("", |(word, _)| *word);
-        let as_bison = if self.is_bison {
-            ", as bison counts them"
-        } else {
-            ""
+    /// Tells that the number isn't the expected one, where that isn't told.
+    fn add(self, alloc: Global, told: &mut Diagnostics, source: Source<'_>) -> io::Result<()> {
+        let counted = self.counted;
+        let Some(Expected { span, number }) = self.wanted.or(self.other) else {
+            return Ok(());
         };
-        match (self.wanted, self.other) {
-            (Some(Expected { span, number }), _) if !self.is_bison => writeln!(
-                out,
-                "{path}:{}: {word} {number}: {kind} conflicts: {counted}",
-                source.spot(span)
-            ),
-            (None, Some(Expected { span, number })) => writeln!(
-                out,
-                "{path}:{}: {other_word} {number} without {word}: {kind} \
-                 conflicts{as_bison}: {counted}",
-                source.spot(span)
-            ),
-            _ => Ok(()),
+        if self.wanted.is_some() && self.is_bison {
+            return Ok(());
         }
+        let (word, kind) = KINDS.get(self.kind).copied().unwrap_or(("", ""));
+        let mut one = Diagnostic::new(alloc, Some(source.path), Some(source.spot(span)))?;
+        one.severity = Severity::Warning;
+        if self.wanted.is_some() {
+            write!(one.message, "{word} {number}: {kind} conflicts: {counted}")?;
+        } else {
+            let other = KINDS.get(1_usize.saturating_sub(self.kind));
+            let other_word = other.map_or("", |(word, _)| *word);
+            let as_bison = if self.is_bison {
+                ", as bison counts them"
+            } else {
+                ""
+            };
+            write!(
+                one.message,
+                "{other_word} {number} without {word}: {kind} conflicts{as_bison}: {counted}"
+            )?;
+        }
+        Ok(told.add(one)?)
     }
 }
 
-/// Writes where the numbers that a file expects aren't those that were counted, and says whether
+/// Tells where the numbers that a file expects aren't those that were counted, and says whether
 /// they are.
-fn is_told<W: Write>(
-    out: &mut W,
+fn is_told(
+    alloc: Global,
+    told: &mut Diagnostics,
     source: Source<'_>,
     numbers: Numbers,
-    counts: Counts,
-    is_bison: bool,
+    (counts, is_bison): (Counts, bool),
 ) -> io::Result<bool> {
     let (shifts, reduces) = (numbers.shift_reduce, numbers.reduce_reduce);
     let mut fits = true;
@@ -126,7 +140,7 @@ fn is_told<W: Write>(
             is_bison,
         };
         if !compared.fits() {
-            compared.put(out, source)?;
+            compared.add(alloc, told, source)?;
             fits = false;
         }
     }
@@ -143,20 +157,23 @@ impl Expectation {
         }
     }
 
-    /// Writes where expected numbers aren't those that were counted, unless that was reported,
-    /// and says whether they are.
-    pub fn is_met<W: Write>(
+    /// Tells where expected numbers aren't those that were counted, unless that was told, and says
+    /// whether they are.
+    pub fn is_met(
         self,
-        out: &mut W,
+        alloc: Global,
+        told: &mut Diagnostics,
         source: Source<'_>,
         found: Counts,
     ) -> io::Result<bool> {
         match self {
             Expectation::Open => Ok(true),
-            Expectation::Given(given) => is_given(out, source.path, given, found),
-            Expectation::Comments(numbers) => is_told(out, source, numbers, found, false),
+            Expectation::Given(given) => is_given(alloc, told, source.path, given, found),
+            Expectation::Comments(numbers) => {
+                is_told(alloc, told, source, numbers, (found, false))
+            }
             Expectation::Directives(numbers, counts) => {
-                is_told(out, source, numbers, counts, true)
+                is_told(alloc, told, source, numbers, (counts, true))
             }
         }
     }

@@ -5,16 +5,18 @@ use crate::expected::{Counts, Expectation};
 use crate::found::{MOST_FOUND, found_in};
 use crate::list::{List, Trouble, list_of};
 use crate::opening::Counted;
-use crate::refusal::put_wrong_line;
+use crate::refusal::wrong_line;
 use crate::written::put_list;
 use std::alloc::{AllocError, Global};
 use std::fs;
 use std::io::{self, ErrorKind, Write};
 use std::rt::Files;
+use ybison::notes::Source;
 use yexplain::text::Bytes;
 use yfaults::opening::Opened;
-use yfiles::reading::{LONGEST_INPUT, Limited};
-use yfiles::writing::put_file;
+use yfiles::diagnostic::{Diagnostic, Diagnostics, Severity};
+use yfiles::reading::{LONGEST_INPUT, Limited, unwritten};
+use yfiles::writing::write_over;
 
 /// The most conflicts that are listed of those that are new, and of those that are gone.
 const MOST_TOLD: usize = 1_000;
@@ -92,77 +94,109 @@ fn compared(alloc: Global, list: &List, found: &Conflicts) -> io::Result<Listed>
 }
 
 /// The list of a path, which may be absent where it is to be written; where it can't be read or is
-/// refused, that is written, and the exit status is the answer.
-fn read_list<F: Files + AllocGlobal, E: Write>(
+/// refused, that is said, and the exit status is the answer.
+fn read_list<F: Files + AllocGlobal>(
     rt: &F,
     path: &str,
     may_lack: bool,
-    errors: &mut E,
+    told: &mut Diagnostics,
 ) -> io::Result<Result<List, u8>> {
     if may_lack && fs::metadata(rt, path).is_err() {
         return Ok(Ok(List::new(rt.alloc())));
     }
     let most = LONGEST_INPUT;
-    let bytes = match (Limited { path, most }).bytes_or_status(rt, false, errors)? {
+    let bytes = match (Limited { path, most }).bytes_or_status(rt, false, told)? {
         Ok(bytes) => bytes,
         Err(status) => return Ok(Err(status)),
     };
     match list_of(rt.alloc(), &bytes) {
         Ok(list) => Ok(Ok(list)),
         Err(Trouble::Wrong(line, why)) => {
-            put_wrong_line(errors, (path, &bytes), line, why)?;
+            told.add(wrong_line(rt.alloc(), (path, &bytes), line, why)?)?;
             Ok(Err(1))
         }
         Err(Trouble::Memory) => Err(io::Error::from(ErrorKind::OutOfMemory)),
     }
 }
 
-/// Writes conflicts as a list has them, each after a front.
-fn put_conflicts<W: Write>(
-    out: &mut W,
-    path: &str,
-    front: &str,
-    conflicts: &[Conflict],
-) -> io::Result<()> {
-    for conflict in conflicts.iter().take(MOST_TOLD) {
-        let (line, token) = (conflict.spot.line, Bytes(&conflict.token));
-        writeln!(out, "{path}:{line}: {front}conflict on {token}")?;
-        writeln!(out, "  {}", Bytes(&conflict.taken))?;
-        writeln!(out, "  {}", Bytes(&conflict.other))?;
+/// How the conflicts are told that a list hasn't, or that the grammar hasn't any more.
+#[derive(Clone, Copy)]
+pub struct Telling<'a> {
+    /// The path of the grammar file, and that of the list.
+    pub paths: (&'a str, &'a str),
+    /// How bad a conflict is that the list hasn't.
+    pub severity: Severity,
+    /// Whether all conflicts are told, as programs want them.
+    pub is_whole: bool,
+}
+
+/// A conflict, after a front.
+fn listed_conflict(
+    alloc: Global,
+    (path, front): (&str, &str),
+    conflict: &Conflict,
+) -> io::Result<Diagnostic> {
+    let mut one = Diagnostic::new(alloc, Some(path), Some(conflict.spot))?;
+    let token = Bytes(&conflict.token);
+    write!(one.message, "{front}conflict on {token}")?;
+    for item in [&conflict.taken, &conflict.other] {
+        let (mut note, item) = (Vec::new(alloc), Bytes(item));
+        write!(note, "{item}")?;
+        one.help(note)?;
     }
-    let more = conflicts.len().saturating_sub(MOST_TOLD);
+    Ok(one)
+}
+
+/// Tells conflicts as a list has them, each after a front.
+fn add_conflicts(
+    alloc: Global,
+    told: &mut Diagnostics,
+    named: (&str, &str),
+    conflicts: &[Conflict],
+    is_whole: bool,
+) -> io::Result<()> {
+    let most = if is_whole { usize::MAX } else { MOST_TOLD };
+    for conflict in conflicts.iter().take(most) {
+        told.add(listed_conflict(alloc, named, conflict)?)?;
+    }
+    let more = conflicts.len().saturating_sub(most);
     if more > 0 {
-        writeln!(out, "{path}: {front}conflicts more: {more}")?;
+        let mut one = Diagnostic::new(alloc, Some(named.0), None)?;
+        write!(one.message, "{}conflicts more: {more}", named.1)?;
+        told.add(one)?;
     }
     Ok(())
 }
 
 /// Writes a list anew, and gives the exit status.
-fn update<F: Files + AllocGlobal, E: Write>(
+fn update<F: Files + AllocGlobal>(
     rt: &F,
     (grammar, path): (&str, &str),
     list: &List,
     found: &Conflicts,
-    errors: &mut E,
+    told: &mut Diagnostics,
 ) -> io::Result<u8> {
     let mut text = Vec::new(rt.alloc());
     put_list(rt.alloc(), &mut text, grammar, list, found)?;
-    put_file(rt, path, &text, errors)
+    match write_over(rt, path, &text) {
+        Ok(()) => Ok(0),
+        Err(error) => unwritten(rt.alloc(), told, path, error),
+    }
 }
 
 /// Compares a list with the conflicts that were found, and writes it anew, where that is asked for.
-fn judge_list<F: Files + AllocGlobal, E: Write>(
+fn judge_list<F: Files + AllocGlobal>(
     rt: &F,
     asked: Asked<'_>,
     path: &str,
     (list, found): (&List, &Conflicts),
-    errors: &mut E,
+    told: &mut Diagnostics,
 ) -> io::Result<Result<Listed, u8>> {
     let mut listed = compared(rt.alloc(), list, found)?;
     if !asked.update {
         return Ok(Ok(listed));
     }
-    match update(rt, (asked.grammar, path), list, found, errors)? {
+    match update(rt, (asked.grammar, path), list, found, told)? {
         0 => {
             listed.accepted = found.all.len();
             listed.is_updated = true;
@@ -172,40 +206,37 @@ fn judge_list<F: Files + AllocGlobal, E: Write>(
     }
 }
 
-/// Writes that a grammar has too many conflicts for a list, and gives the exit status.
-fn put_too_many<E: Write>(grammar: &str, errors: &mut E) -> io::Result<u8> {
-    writeln!(
-        errors,
-        "{grammar}: more than {MOST_FOUND} conflicts, the most that a list of accepted ones can \
-         have"
-    )?;
-    Ok(1)
-}
-
 /// What a list comes to.
-fn listed_in<F: Files + AllocGlobal, E: Write>(
+fn listed_in<F: Files + AllocGlobal>(
     rt: &F,
     asked: Asked<'_>,
     path: &str,
     opened: &Opened,
-    errors: &mut E,
+    told: &mut Diagnostics,
 ) -> io::Result<Result<Listed, u8>> {
-    let list = match read_list(rt, path, asked.update, errors)? {
+    let list = match read_list(rt, path, asked.update, told)? {
         Ok(list) => list,
         Err(status) => return Ok(Err(status)),
     };
-    match found_in(rt.alloc(), &opened.tables, &opened.lines)? {
-        Some(found) => judge_list(rt, asked, path, (&list, &found), errors),
-        None => put_too_many(asked.grammar, errors).map(Err),
+    if let Some(found) = found_in(rt.alloc(), &opened.tables, &opened.lines)? {
+        return judge_list(rt, asked, path, (&list, &found), told);
     }
+    let mut one = Diagnostic::new(rt.alloc(), Some(asked.grammar), None)?;
+    write!(
+        one.message,
+        "more than {MOST_FOUND} conflicts, the most that a list of accepted ones can have"
+    )?;
+    told.add(one)?;
+    Ok(Err(1))
 }
 
 /// Whether the numbers of conflicts are the expected ones, where some are; where they aren't, that
-/// is written.
-fn is_expected<E: Write>(
+/// is told.
+fn is_expected(
+    alloc: Global,
     asked: Asked<'_>,
     counted: &Counted,
-    errors: &mut E,
+    told: &mut Diagnostics,
 ) -> io::Result<Option<bool>> {
     let expected = match asked.expect {
         Some(given) => Expectation::Given(given),
@@ -215,27 +246,29 @@ fn is_expected<E: Write>(
         return Ok(None);
     }
     let found = Counts::of(&counted.opened.tables);
-    expected
-        .is_met(errors, counted.source(asked.grammar), found)
-        .map(Some)
+    let source = Source {
+        path: asked.grammar,
+        bytes: &counted.bytes,
+    };
+    expected.is_met(alloc, told, source, found).map(Some)
 }
 
 /// What is said of the conflicts of a grammar: whether their numbers are the expected ones, and
-/// what a list of accepted ones comes to. Numbers that aren't the expected ones are written. Where
-/// the list is refused or can't be read or written, that is written, and the exit status is the
-/// answer: 1 or 3.
-pub fn judge<F: Files + AllocGlobal, E: Write>(
+/// what a list of accepted ones comes to. Numbers that aren't the expected ones are told. Where the
+/// list is refused or can't be read or written, that is said, and the exit status is the answer: 1
+/// or 3.
+pub fn judge<F: Files + AllocGlobal>(
     rt: &F,
     asked: Asked<'_>,
     counted: &Counted,
-    errors: &mut E,
+    told: &mut Diagnostics,
 ) -> io::Result<Result<Judged, u8>> {
-    let expected = is_expected(asked, counted, errors)?;
+    let expected = is_expected(rt.alloc(), asked, counted, told)?;
     let Some(path) = asked.accept else {
         let listed = None;
         return Ok(Ok(Judged { expected, listed }));
     };
-    match listed_in(rt, asked, path, &counted.opened, errors)? {
+    match listed_in(rt, asked, path, &counted.opened, told)? {
         Ok(listed) => Ok(Ok(Judged {
             expected,
             listed: Some(listed),
@@ -245,14 +278,25 @@ pub fn judge<F: Files + AllocGlobal, E: Write>(
 }
 
 impl Listed {
-    /// Writes the conflicts that a list hasn't, and those that the grammar hasn't, each at the line
+    /// Tells the conflicts that a list hasn't, and those that the grammar hasn't, each at the line
     /// of its file and as a list has it; nothing once it is written anew.
-    pub fn put_told<W: Write>(&self, out: &mut W, grammar: &str, path: &str) -> io::Result<()> {
+    pub fn add_told(
+        &self,
+        alloc: Global,
+        told: &mut Diagnostics,
+        asked: Telling<'_>,
+    ) -> io::Result<()> {
         if self.is_updated {
             return Ok(());
         }
-        put_conflicts(out, grammar, "new ", &self.new)?;
-        put_conflicts(out, path, "gone: ", &self.gone)
+        let ((grammar, path), is_whole) = (asked.paths, asked.is_whole);
+        let before = told.all.len();
+        add_conflicts(alloc, told, (grammar, "new "), &self.new, is_whole)?;
+        told.judge(before, asked.severity);
+        let before = told.all.len();
+        add_conflicts(alloc, told, (path, "gone: "), &self.gone, is_whole)?;
+        told.judge(before, Severity::Warning);
+        Ok(())
     }
 
     /// Writes how many conflicts a list has, how many are new, and how many are gone.

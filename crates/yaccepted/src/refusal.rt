@@ -2,22 +2,29 @@
 
 use crate::comments::{self, Wrong};
 use crate::list::Why;
+use std::alloc::Global;
 use std::io::{self, Write};
 use ybison::notes::Source;
-use yexplain::lines::Spot;
-use yfaults::shown::Place;
+use yfiles::diagnostic::Diagnostic;
+use yfiles::place::Place;
 
 impl Why {
-    /// Writes what is wrong.
-    fn put<W: Write>(self, out: &mut W) -> io::Result<()> {
-        match self {
-            Why::NoFirst => writeln!(out, "a list of accepted conflicts begins with conflicts 1"),
-            Why::Unknown => writeln!(out, "this is no line of a list of accepted conflicts"),
-            Why::Loose => writeln!(out, "no conflict begins before this item"),
-            Why::NoItem => writeln!(out, "this is no item"),
-            Why::Short => writeln!(out, "this conflict has fewer than two items"),
-            Why::Twice(line) => writeln!(out, "this conflict is accepted by line {line} already"),
-        }
+    /// Says what is wrong.
+    fn say(self, one: &mut Diagnostic) -> io::Result<()> {
+        let words = match self {
+            Why::NoFirst => "a list of accepted conflicts begins with conflicts 1",
+            Why::Unknown => "this is no line of a list of accepted conflicts",
+            Why::Loose => "no conflict begins before this item",
+            Why::NoItem => "this is no item",
+            Why::Short => "this conflict has fewer than two items",
+            Why::Twice(line) => {
+                return write!(
+                    one.message,
+                    "this conflict is accepted by line {line} already"
+                );
+            }
+        };
+        Ok(one.say(words)?)
     }
 
     /// How to mend it.
@@ -47,44 +54,35 @@ fn start_of(source: &[u8], number: usize) -> usize {
     })
 }
 
-/// Writes what is wrong with a line of a list of these bytes.
-pub fn put_wrong_line<W: Write>(
-    out: &mut W,
+/// What is wrong with a line of a list of these bytes.
+pub fn wrong_line(
+    alloc: Global,
     (path, source): (&str, &[u8]),
     number: usize,
     why: Why,
-) -> io::Result<()> {
+) -> io::Result<Diagnostic> {
     let at = start_of(source, number);
-    write!(out, "{path}:{number}: ")?;
-    why.put(out)?;
-    Place { path, source, at }.put_text(out, false)?;
-    let mend = why.mend();
-    writeln!(out, "  {mend}")
+    let mut one = Diagnostic::at(alloc, Place { path, source, at }, false)?;
+    why.say(&mut one)?;
+    one.note(alloc, why.mend())?;
+    Ok(one)
 }
 
-/// Writes what is wrong with a comment of a grammar file.
-pub fn put_wrong_comment<W: Write>(out: &mut W, file: Source<'_>, wrong: Wrong) -> io::Result<()> {
+/// What is wrong with a comment of a grammar file.
+pub fn wrong_comment(alloc: Global, file: Source<'_>, wrong: Wrong) -> io::Result<Diagnostic> {
     let (path, source, at) = (file.path, file.bytes, wrong.at);
     let place = Place { path, source, at };
-    let spot = Spot {
-        line: place.spot().0,
-        column: file.column(at),
-    };
+    let mut one = Diagnostic::at(alloc, place, true)?;
     match wrong.why {
-        comments::Why::NoNumber => {
-            writeln!(
-                out,
-                "{path}:{spot}: this comment expects no number of conflicts"
-            )?;
-        }
-        comments::Why::Second(before) => writeln!(
-            out,
-            "{path}:{spot}: a comment on line {before} expects a number already"
+        comments::Why::NoNumber => one.say("this comment expects no number of conflicts")?,
+        comments::Why::Second(before) => write!(
+            one.message,
+            "a comment on line {before} expects a number already"
         )?,
     }
-    place.put_text(out, true)?;
-    writeln!(
-        out,
-        "  Write /* %expect N */ or /* %expect-rr N */, each once and with nothing else in it."
-    )
+    one.note(
+        alloc,
+        "Write /* %expect N */ or /* %expect-rr N */, each once and with nothing else in it.",
+    )?;
+    Ok(one)
 }

@@ -1,6 +1,6 @@
 //! One parse from a rival of a conflict until the token of the conflict can be shifted.
 
-use crate::choice::{Cell, Choice, rules_before};
+use crate::choice::{Cell, Choice, rules_in};
 use crate::stacks::{Deed, Stacks};
 use indexmap::IndexSet;
 use std::alloc::Global;
@@ -21,73 +21,53 @@ pub struct Alone {
     pub stack: usize,
 }
 
-/// Stacks that were met, and by which reduction on which of them.
-#[derive(Drop)]
-struct Met {
-    stacks: IndexSet<usize>,
-    links: Vec<(usize, usize)>,
+/// The reductions that lead to the stack of a number, where each has the number of the stack on
+/// which it is made; that of the first stack has none.
+fn reductions(alloc: Global, links: &[(usize, usize)], number: usize) -> Made<Vec<Deed>> {
+    let (mut deeds, mut at) = (Vec::new(alloc), number);
+    for _ in 0..links.len() {
+        let Some(link) = links.get(at) else {
+            break;
+        };
+        if at == 0 {
+            break;
+        }
+        deeds.push(Deed::Reduce(link.1))?;
+        at = link.0;
+    }
+    deeds.reverse();
+    Ok(deeds)
 }
 
-impl Met {
-    /// Notes a stack, where it is new.
-    fn note(&mut self, stack: usize, link: (usize, usize)) -> Made<()> {
-        let (_, is_new) = self.stacks.insert_full(stack)?;
-        if is_new {
-            self.links.push(link)?;
-        }
-        Ok(())
-    }
-
-    /// Adds the reductions that led to a stack, the last one first.
-    fn push_back(&self, deeds: &mut Vec<Deed>, number: usize) -> Made<()> {
-        let mut at = number;
-        for _ in 0..self.links.len() {
-            let Some(link) = self.links.get(at).filter(|_| at > 0) else {
-                break;
-            };
-            deeds.push(Deed::Reduce(link.1))?;
-            at = link.0;
-        }
-        Ok(())
-    }
-}
-
-/// The first stack from this one on, by reductions, on which the token can be shifted.
-fn first_that_shifts(
+/// The reductions from a stack to the first one on which the token can be shifted, and that one.
+fn until_shift(
     alloc: Global,
     tables: &Tables,
     stacks: &mut Stacks,
-    met: &mut Met,
+    stack: usize,
     cell: Cell,
-) -> Made<Option<usize>> {
+) -> Made<Option<Alone>> {
+    let (mut met, mut links) = (IndexSet::new(alloc), Vec::new(alloc));
+    met.insert(stack)?;
+    links.push((0usize, 0usize))?;
     for number in 0..MOST_STACKS {
-        let Some(stack) = met.stacks.get_index(number).copied() else {
+        let Some(stack) = met.get_index(number).copied() else {
             break;
         };
         let state = stacks.top(stack);
         if shift_of(tables, state, cell.token).is_some() {
-            return Ok(Some(number));
+            let deeds = reductions(alloc, &links, number)?;
+            return Ok(Some(Alone { deeds, stack }));
         }
-        let rules = rules_before(alloc, tables, state, cell.token)?;
-        note_all(tables, stacks, met, (number, stack), &rules)?;
+        for rule in &rules_in(alloc, tables, state, Some(cell.token))? {
+            if let Some(next) = stacks.reduced(tables.automaton(), stack, *rule)? {
+                if met.insert(next)? {
+                    links.push((number, *rule))?;
+                }
+            }
+        }
     }
     Ok(None)
-}
-
-/// Notes the stacks to which rules lead from one.
-fn note_all(
-    tables: &Tables,
-    stacks: &mut Stacks,
-    met: &mut Met,
-    (number, stack): (usize, usize),
-    rules: &[usize],
-) -> Made<()> {
-    for rule in rules {
-        if let Some(next) = stacks.reduced(tables.automaton(), stack, *rule)? {
-            met.note(next, (number, *rule))?;
-        }
-    }
-    Ok(())
 }
 
 /// What a parse does that makes a choice on a stack, until the token was shifted.
@@ -99,25 +79,21 @@ pub fn alone_of(
     cell: Cell,
     choice: Choice,
 ) -> Made<Option<Alone>> {
-    let mut met = Met {
-        stacks: IndexSet::new(alloc),
-        links: Vec::new(alloc),
-    };
-    let Some(begun) = choice.made(tables.automaton(), stacks, stack)? else {
+    let automaton = tables.automaton();
+    let Some(begun) = choice.made(automaton, stacks, stack)? else {
         return Ok(None);
     };
-    met.note(begun, (0, 0))?;
-    let Some(number) = first_that_shifts(alloc, tables, stacks, &mut met, cell)? else {
+    let Some(alone) = until_shift(alloc, tables, stacks, begun, cell)? else {
         return Ok(None);
     };
-    let mut deeds = Vec::new(alloc);
-    met.push_back(&mut deeds, number)?;
-    deeds.reverse();
-    let at = met.stacks.get_index(number).copied().unwrap_or(begun);
     if cell.token == END {
-        return Ok(Some(Alone { deeds, stack: at }));
+        return Ok(Some(alone));
     }
+    let Alone { deeds, stack } = alone;
+    let mut deeds = deeds;
     deeds.push(Deed::Shift(cell.token))?;
-    let shifted = stacks.shifted(tables.automaton(), at, cell.token)?;
-    Ok(shifted.map(|stack| Alone { deeds, stack }))
+    match stacks.shifted(automaton, stack, cell.token)? {
+        Some(stack) => Ok(Some(Alone { deeds, stack })),
+        None => Ok(None),
+    }
 }

@@ -4,16 +4,17 @@ use crate::alone::alone_of;
 use crate::choice::{Cell, Choice};
 use crate::leaves::{Leaves, MOST_TOKENS};
 use crate::pairs::{Joined, Search};
-use crate::rest::rest_of;
 use crate::stacks::{Deed, Stacks};
 use crate::trees::Trees;
 use crate::walker::{Claim, is_derivation};
 use std::alloc::{AllocError, Global};
-use ycounterexample::budget::part_of;
 use ycounterexample::search::{Finder, Found, Target};
 use yexplain::reads::Made;
-use ylalr::{Automaton, END, ERROR};
+use ylalr::{END, ERROR};
 use yparse::{Tokens, Verdict, judge};
+use ysearch::budget::Share;
+use ysearch::completion::{End, Ties, end_over, rest_of};
+use ysearch::shortest::Shortest;
 use ysymbols::Sym;
 use ytables::Tables;
 
@@ -85,48 +86,31 @@ pub struct Ambiguities {
     /// The trees of what was found.
     pub trees: Trees,
     leaves: Leaves,
-    /// How many steps may still be taken.
-    left: usize,
+    /// How many steps searches for two trees may take.
+    steps: Share,
     /// Whether sentences are still judged: until the parse of one takes too long.
     judges: bool,
 }
 
-/// What a parse does from the first state on, and the symbols that it shifts.
-#[derive(Drop)]
-struct Course {
-    deeds: Vec<Deed>,
-    form: Vec<Sym>,
-}
-
-/// A way to a conflict, and the rest of a sentence after what a rival does.
+/// What sentences are made by for a conflict: the tables, the shortest sentences, the rivals, and a
+/// way to the conflict.
 #[derive(Clone, Copy)]
-struct Frame<'a> {
+struct Scene<'a> {
+    tables: &'a Tables,
+    shortest: &'a Shortest,
+    rivals: Rivals,
     way: &'a [Sym],
-    rest: &'a [Deed],
 }
 
-impl Course {
-    /// Adds what a parse does.
-    fn extend(&mut self, deeds: &[Deed]) -> Made<()> {
-        for deed in deeds {
-            self.deeds.push(*deed)?;
-            if let Deed::Shift(symbol) = deed {
-                self.form.push(*symbol)?;
-            }
-        }
-        Ok(())
-    }
-}
-
-impl Answer {
-    /// Nothing is found.
-    fn new(alloc: Global) -> Answer {
-        Answer {
-            twins: None,
-            sentences: Vec::new(alloc),
-            steps: None,
+/// The symbols that a parse shifts.
+fn form_of(alloc: Global, deeds: &[Deed]) -> Made<Vec<Sym>> {
+    let mut form = Vec::new(alloc);
+    for deed in deeds {
+        if let Deed::Shift(symbol) = deed {
+            form.push(*symbol)?;
         }
     }
+    Ok(form)
 }
 
 impl Rivals {
@@ -139,19 +123,51 @@ impl Rivals {
             second,
         }
     }
+}
 
-    /// Both rivals.
-    fn choices(self) -> [Choice; 2] {
-        [self.first, Choice::Reduce(self.second)]
+impl Scene<'_> {
+    /// What a parse does from a stack on until its input can end, with as few tokens as there can
+    /// be: for each rest of an item it shifts the symbols, and reduces.
+    fn rest(self, alloc: Global, stacks: &Stacks, stack: usize) -> Made<Option<Vec<Deed>>> {
+        let (states, automaton) = (stacks.states(alloc, stack)?, self.tables.automaton());
+        let is_end = self.rivals.cell.token == END;
+        // nothing follows after the end, which counts for a token
+        let most = if is_end { 0 } else { MOST_TOKENS };
+        let (shortest, most) = (self.shortest, most.saturating_add(1));
+        let end = end_over(alloc, shortest, automaton, &states, Ties::First, most)?;
+        let End { items, .. } = end;
+        let Some(items) = items else {
+            return Ok(None);
+        };
+        let mut deeds = Vec::new(alloc);
+        for item in &items {
+            if item.rule > 0 {
+                for symbol in rest_of(automaton.grammar(), *item) {
+                    deeds.push(Deed::Shift(*symbol))?;
+                }
+                deeds.push(Deed::Reduce(item.rule))?;
+            }
+        }
+        Ok(Some(deeds))
     }
 
-    /// How many tokens may follow after the conflict's token.
-    fn most(self) -> u64 {
-        if self.cell.token == END {
-            0
-        } else {
-            MOST_TOKENS
+    /// What a parse does in all: it comes to the conflict, makes a choice, goes on, and ends.
+    fn course(
+        self,
+        alloc: Global,
+        choice: Choice,
+        (deeds, rest): (&[Deed], &[Deed]),
+    ) -> Made<Vec<Deed>> {
+        let mut course = Vec::new(alloc);
+        for symbol in self.way {
+            course.push(Deed::Shift(*symbol))?;
         }
+        if let Some(rule) = choice.rule() {
+            course.push(Deed::Reduce(rule))?;
+        }
+        course.extend_from_slice(deeds)?;
+        course.extend_from_slice(rest)?;
+        Ok(course)
     }
 }
 
@@ -162,7 +178,7 @@ impl Ambiguities {
             alloc,
             trees: Trees::new(alloc),
             leaves: Leaves::new(alloc),
-            left: ALL_STEPS,
+            steps: Share::new(ALL_STEPS, 8, (LEAST_STEPS, MOST_STEPS)),
             judges: true,
         }
     }
@@ -175,96 +191,91 @@ impl Ambiguities {
         finder: &mut Finder,
         (rivals, are_both): (Rivals, bool),
     ) -> Made<Answer> {
-        let mut answer = Answer::new(self.alloc);
-        if are_both {
-            self.add_both(tables, finder, rivals, &mut answer)?;
-        } else {
-            for choice in rivals.choices() {
+        let mut answer = Answer {
+            twins: None,
+            sentences: Vec::new(self.alloc),
+            steps: None,
+        };
+        let choices = [rivals.first, Choice::Reduce(rivals.second)];
+        if !are_both {
+            for choice in choices {
                 self.add_alone(tables, finder, (rivals, choice), &mut answer)?;
+            }
+            return Ok(answer);
+        }
+        let target = rivals.target(rivals.first.rule(), Some(rivals.second));
+        if let Found::Way(way) = finder.find(tables.automaton(), target)? {
+            let scene = Scene {
+                tables,
+                shortest: &finder.shortest,
+                rivals,
+                way: &way,
+            };
+            self.seek_twins(scene, &mut answer)?;
+            if answer.twins.is_none() {
+                for choice in choices {
+                    self.add(scene, choice, &mut answer)?;
+                }
             }
         }
         Ok(answer)
     }
 
-    /// Adds what is found on the shortest way that allows both rivals.
-    fn add_both(
+    /// Adds a sentence for a rival, on the shortest way on which it can be chosen.
+    fn add_alone(
         &mut self,
         tables: &Tables,
         finder: &mut Finder,
-        rivals: Rivals,
+        (rivals, choice): (Rivals, Choice),
         answer: &mut Answer,
     ) -> Made<()> {
-        let target = rivals.target(rivals.first.rule(), Some(rivals.second));
-        let Found::Way(way) = finder.shortest(tables.automaton(), target)? else {
-            return Ok(());
-        };
-        self.seek_twins(tables, finder, rivals, &way, answer)?;
-        if answer.twins.is_none() {
-            for choice in rivals.choices() {
-                self.add(tables, finder, (rivals, choice), &way, answer)?;
-            }
+        let target = rivals.target(choice.rule(), None);
+        if let Found::Way(way) = finder.find(tables.automaton(), target)? {
+            let scene = Scene {
+                tables,
+                shortest: &finder.shortest,
+                rivals,
+                way: &way,
+            };
+            self.add(scene, choice, answer)?;
         }
         Ok(())
     }
 
     /// Seeks one sentence with two trees.
-    fn seek_twins(
-        &mut self,
-        tables: &Tables,
-        finder: &Finder,
-        rivals: Rivals,
-        way: &[Sym],
-        answer: &mut Answer,
-    ) -> Made<()> {
-        let mut stacks = Stacks::new(self.alloc)?;
-        let Some(stack) = stacks.over(tables.automaton(), way)? else {
+    fn seek_twins(&mut self, scene: Scene<'_>, answer: &mut Answer) -> Made<()> {
+        let (tables, rivals, way) = (scene.tables, scene.rivals, scene.way);
+        let Some((stacks, stack)) = Stacks::over(self.alloc, tables.automaton(), way)? else {
             return Ok(());
         };
-        let steps = part_of(self.left, MOST_STEPS, LEAST_STEPS);
+        let (mut stacks, steps) = (stacks, self.steps.part());
         let choices = (rivals.first, Choice::Reduce(rivals.second));
-        let cell = rivals.cell;
-        let alloc = self.alloc;
+        let (alloc, cell) = (self.alloc, rivals.cell);
         let mut search = Search::new(alloc, tables, &mut stacks, stack, cell, choices, steps)?;
         for _ in 0..MOST_JOINED {
-            let Some(joined) = search.next(tables, &mut stacks, finder)? else {
+            let Some(joined) = search.next(tables, &mut stacks, scene.shortest)? else {
                 break;
             };
-            answer.twins = self.twins(tables, finder, rivals, way, (&stacks, &joined))?;
+            answer.twins = self.twins(scene, &stacks, &joined)?;
             if answer.twins.is_some() {
                 break;
             }
         }
-        self.left = self.left.saturating_sub(steps.saturating_sub(search.left));
+        self.steps.spend(steps.saturating_sub(search.left));
         answer.steps = Some(steps);
         Ok(())
     }
 
     /// The sentence with two trees that two parses make, checked.
-    fn twins(
-        &mut self,
-        tables: &Tables,
-        finder: &Finder,
-        rivals: Rivals,
-        way: &[Sym],
-        (stacks, joined): (&Stacks, &Joined),
-    ) -> Made<Option<Twins>> {
-        let automaton = tables.automaton();
-        let most = rivals.most();
-        let rest = rest_of(self.alloc, automaton, finder, stacks, joined.stack, most)?;
-        let Some(rest) = rest else {
+    fn twins(&mut self, scene: Scene<'_>, stacks: &Stacks, joined: &Joined) -> Made<Option<Twins>> {
+        let Some(rest) = scene.rest(self.alloc, stacks, joined.stack)? else {
             return Ok(None);
         };
-        let frame = Frame { way, rest: &rest };
-        let cell = rivals.cell;
-        let choice = Choice::Reduce(rivals.second);
-        let one = self.checked(
-            automaton,
-            finder,
-            (cell, rivals.first),
-            frame,
-            &joined.first,
-        )?;
-        let other = self.checked(automaton, finder, (cell, choice), frame, &joined.second)?;
+        let Scene { rivals, way, .. } = scene;
+        let second = Choice::Reduce(rivals.second);
+        let (first, other) = (joined.first.as_slice(), joined.second.as_slice());
+        let one = self.checked(scene, rivals.first, (first, rest.as_slice()))?;
+        let other = self.checked(scene, second, (other, rest.as_slice()))?;
         let (Some((sentence, one)), Some((same, other))) = (one, other) else {
             return Ok(None);
         };
@@ -275,114 +286,72 @@ impl Ambiguities {
         let (one, other, before) = self.trees.least(self.alloc, (one, other))?;
         Ok(Some(Twins {
             sentence,
-            second: choice,
+            second,
             trees: (one, other),
             dot: way.len().saturating_sub(before),
         }))
     }
 
-    /// The sentence that a parse makes, and its tree, where it is one in which the rival stands.
+    /// The sentence that a parse makes by what it does after a choice, and its tree, where it is
+    /// one in which the rival stands.
     fn checked(
         &mut self,
-        automaton: &Automaton,
-        finder: &Finder,
-        (cell, choice): (Cell, Choice),
-        frame: Frame<'_>,
-        deeds: &[Deed],
+        scene: Scene<'_>,
+        choice: Choice,
+        deeds: (&[Deed], &[Deed]),
     ) -> Made<Option<(Sentence, usize)>> {
-        let course = self.course(choice, frame, deeds)?;
-        let before = finder.sentence(automaton, frame.way)?;
-        let tokens = finder.sentence(automaton, &course.form)?;
-        let (Some(before), Some(tokens)) = (before, tokens) else {
+        let (alloc, grammar) = (self.alloc, scene.tables.automaton().grammar());
+        let course = scene.course(alloc, choice, deeds)?;
+        let form = form_of(alloc, &course)?;
+        let before = scene.shortest.sentence(alloc, grammar, scene.way)?;
+        let tokens = scene.shortest.sentence(alloc, grammar, &form)?;
+        let trees = &mut self.trees;
+        let leaves = self.leaves.all(trees, grammar, scene.shortest, &form)?;
+        let (Some(before), Some(tokens), Some(leaves)) = (before, tokens, leaves) else {
             return Ok(None);
         };
-        let Some(tree) = self.tree(automaton, finder, &course)? else {
+        let Some(tree) = self.trees.made(alloc, grammar, &course, &leaves)? else {
             return Ok(None);
         };
-        let dot = before.len();
         let claim = Claim {
-            tokens,
-            dot,
-            token: cell.token,
-            way: Vec::from_slice(self.alloc, frame.way)?,
+            tokens: &tokens,
+            dot: before.len(),
+            token: scene.rivals.cell.token,
+            way: scene.way,
             choice,
         };
-        let grammar = automaton.grammar();
-        let is_right = is_derivation(self.alloc, grammar, &self.trees, tree, &claim)?;
-        let Claim { tokens, .. } = claim;
+        let is_right = is_derivation(alloc, grammar, &self.trees, tree, claim)?;
         if !is_right || tokens.len() as u64 > MOST_TOKENS || tokens.contains(&ERROR) {
             return Ok(None);
         }
         let sentence = Sentence {
             choice,
             tokens,
-            dot,
+            dot: before.len(),
             refused: None,
         };
         Ok(Some((sentence, tree)))
     }
 
-    /// What a parse does in all: it comes to the conflict, makes a choice, goes on, and ends.
-    fn course(&self, choice: Choice, frame: Frame<'_>, deeds: &[Deed]) -> Made<Course> {
-        let mut course = Course {
-            deeds: Vec::new(self.alloc),
-            form: Vec::new(self.alloc),
-        };
-        for symbol in frame.way {
-            course.extend(&[Deed::Shift(*symbol)])?;
-        }
-        let chosen = choice.deeds(self.alloc)?;
-        course.extend(&chosen)?;
-        course.extend(deeds)?;
-        course.extend(frame.rest)?;
-        Ok(course)
-    }
-
-    /// The tree that a parse makes.
-    fn tree(
-        &mut self,
-        automaton: &Automaton,
-        finder: &Finder,
-        course: &Course,
-    ) -> Made<Option<usize>> {
-        let trees = &mut self.trees;
-        let leaves = self.leaves.all(trees, automaton, finder, &course.form)?;
-        match leaves {
-            Some(leaves) => {
-                let grammar = automaton.grammar();
-                self.trees.made(self.alloc, grammar, &course.deeds, &leaves)
-            }
-            None => Ok(None),
-        }
-    }
-
     /// Adds a sentence for a rival on a way, where one is found.
-    fn add(
-        &mut self,
-        tables: &Tables,
-        finder: &Finder,
-        (rivals, choice): (Rivals, Choice),
-        way: &[Sym],
-        answer: &mut Answer,
-    ) -> Made<()> {
-        let (automaton, cell) = (tables.automaton(), rivals.cell);
-        let mut stacks = Stacks::new(self.alloc)?;
-        let Some(stack) = stacks.over(automaton, way)? else {
+    fn add(&mut self, scene: Scene<'_>, choice: Choice, answer: &mut Answer) -> Made<()> {
+        let alloc = self.alloc;
+        let (tables, rivals, way) = (scene.tables, scene.rivals, scene.way);
+        let Some((stacks, stack)) = Stacks::over(alloc, tables.automaton(), way)? else {
             return Ok(());
         };
-        let Some(alone) = alone_of(self.alloc, tables, &mut stacks, stack, cell, choice)? else {
+        let mut stacks = stacks;
+        let Some(alone) = alone_of(alloc, tables, &mut stacks, stack, rivals.cell, choice)? else {
             return Ok(());
         };
-        let most = rivals.most();
-        let rest = rest_of(self.alloc, automaton, finder, &stacks, alone.stack, most)?;
-        if let Some(rest) = rest {
-            let frame = Frame { way, rest: &rest };
-            let found = self.checked(automaton, finder, (cell, choice), frame, &alone.deeds)?;
-            if let Some((sentence, _)) = found {
-                let mut sentence = sentence;
-                sentence.refused = self.refused(tables, &sentence.tokens)?;
-                answer.sentences.push(sentence)?;
-            }
+        let Some(rest) = scene.rest(alloc, &stacks, alone.stack)? else {
+            return Ok(());
+        };
+        let deeds = (alone.deeds.as_slice(), rest.as_slice());
+        if let Some((sentence, _)) = self.checked(scene, choice, deeds)? {
+            let mut sentence = sentence;
+            sentence.refused = self.refused(tables, &sentence.tokens)?;
+            answer.sentences.push(sentence)?;
         }
         Ok(())
     }
@@ -403,21 +372,6 @@ impl Ambiguities {
                 Ok(None)
             }
             Err(_) => Err(AllocError),
-        }
-    }
-
-    /// Adds a sentence for a rule, on the shortest way on which it can be reduced.
-    fn add_alone(
-        &mut self,
-        tables: &Tables,
-        finder: &mut Finder,
-        (rivals, choice): (Rivals, Choice),
-        answer: &mut Answer,
-    ) -> Made<()> {
-        let target = rivals.target(choice.rule(), None);
-        match finder.shortest(tables.automaton(), target)? {
-            Found::Way(way) => self.add(tables, finder, (rivals, choice), &way, answer),
-            _ => Ok(()),
         }
     }
 }

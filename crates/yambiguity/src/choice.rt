@@ -1,6 +1,6 @@
 //! A cell with a conflict, and what can be chosen in it.
 
-use crate::stacks::{Deed, Stacks};
+use crate::stacks::Stacks;
 use std::alloc::Global;
 use yexplain::reads::{Made, candidates_of, is_complete, items_of};
 use ylalr::Automaton;
@@ -26,15 +26,6 @@ pub struct Cell {
 }
 
 impl Choice {
-    /// What it does before the token of the conflict is shifted.
-    pub fn deeds(self, alloc: Global) -> Made<Vec<Deed>> {
-        let mut deeds = Vec::new(alloc);
-        if let Choice::Reduce(rule) = self {
-            deeds.push(Deed::Reduce(rule))?;
-        }
-        Ok(deeds)
-    }
-
     /// The rule that is reduced, where one is.
     pub fn rule(self) -> Option<usize> {
         match self {
@@ -57,18 +48,26 @@ impl Choice {
     }
 }
 
-/// The rules that can be reduced in a state before a token, whatever precedences say.
-pub fn rules_before(alloc: Global, tables: &Tables, state: usize, token: Sym) -> Made<Vec<usize>> {
-    candidates_of(tables, state, token)
-        .map(|candidate| candidate.rule)
-        .collect(alloc)
-}
-
-/// The rules that can be reduced in a state before some token.
-pub fn rules_in(alloc: Global, automaton: &Automaton, state: usize) -> Made<Vec<usize>> {
-    items_of(automaton, state)
-        .iter()
-        .filter(|item| is_complete(automaton.grammar(), **item))
-        .map(|item| item.rule)
-        .collect(alloc)
+/// The rules that can be reduced in a state before a token, whatever precedences say; without a
+/// token, those before some token.
+pub fn rules_in(
+    alloc: Global,
+    tables: &Tables,
+    state: usize,
+    token: Option<Sym>,
+) -> Made<Vec<usize>> {
+    let mut rules = Vec::new(alloc);
+    if let Some(token) = token {
+        for candidate in candidates_of(tables, state, token) {
+            rules.push(candidate.rule)?;
+        }
+        return Ok(rules);
+    }
+    let automaton = tables.automaton();
+    for item in items_of(automaton, state) {
+        if is_complete(automaton.grammar(), *item) {
+            rules.push(item.rule)?;
+        }
+    }
+    Ok(rules)
 }

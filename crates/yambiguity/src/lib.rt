@@ -3,9 +3,9 @@
 //!
 //! `stacks` has the stacks of parses that make any choice, `choice` a conflict's cell and rivals.
 //! `pairs` seeks two parses over the same symbols that come to one stack, `alone` one parse until
-//! the conflict's token, `rest` the shortest way on to the end of a sentence. `trees` has the trees
-//! that such parses make, `leaves` those of shortest sentences. `walker` checks a tree by its rules
-//! alone, and `answer` makes all of it the answer for a conflict.
+//! the conflict's token. `trees` has the trees that such parses make, `leaves` those of shortest
+//! sentences. `walker` checks a tree by its rules alone, and `answer` makes all of it the answer
+//! for a conflict.
 #![tactic(auto)]
 
 pub mod alone;
@@ -13,7 +13,6 @@ pub mod answer;
 pub mod choice;
 pub mod leaves;
 pub mod pairs;
-pub mod rest;
 pub mod stacks;
 pub mod trees;
 pub mod walker;

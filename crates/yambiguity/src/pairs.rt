@@ -1,14 +1,14 @@
 //! Two parses that go on from a conflict by its two rivals over the same symbols: sought are two
 //! that come to the same stack, the cheapest first.
 
-use crate::choice::{Cell, Choice, rules_before, rules_in};
+use crate::choice::{Cell, Choice, rules_in};
 use crate::stacks::{Deed, Stacks};
 use indexmap::IndexSet;
 use std::alloc::Global;
-use ycounterexample::queue::Queue;
-use ycounterexample::search::Finder;
 use yexplain::reads::{Made, items_of, next_of};
-use ylalr::{END, ERROR};
+use ylalr::{Automaton, END, ERROR};
+use ysearch::queue::Queue;
+use ysearch::shortest::Shortest;
 use ysymbols::Sym;
 use ytables::Tables;
 
@@ -77,37 +77,6 @@ pub struct Search {
     pub left: usize,
 }
 
-impl Pair {
-    /// Whether both parses have come to one stack.
-    fn is_joined(self) -> bool {
-        self.first == self.second && self.stage != Stage::Before
-    }
-
-    /// The stack of one of the parses.
-    fn stack(self, side: Side) -> usize {
-        match side {
-            Side::First => self.first,
-            Side::Second | Side::Both => self.second,
-        }
-    }
-
-    /// The pair once one of the parses has come to a stack by a reduction: after the second one
-    /// has, the first one reduces no more before a symbol is shifted.
-    fn reduced(self, side: Side, stack: usize) -> Pair {
-        match side {
-            Side::First => Pair {
-                first: stack,
-                ..self
-            },
-            Side::Second | Side::Both => Pair {
-                second: stack,
-                may_reduce: false,
-                ..self
-            },
-        }
-    }
-}
-
 impl Search {
     /// A search from a stack whose top state has a conflict, by two of its rivals, in so many
     /// steps.
@@ -168,7 +137,7 @@ impl Search {
         &mut self,
         tables: &Tables,
         stacks: &mut Stacks,
-        finder: &Finder,
+        shortest: &Shortest,
     ) -> Made<Option<Joined>> {
         for _ in 0..self.left {
             if self.left == 0 {
@@ -180,36 +149,20 @@ impl Search {
             let Some(pair) = self.pairs.get_index(number).copied() else {
                 break;
             };
-            if pair.is_joined() {
+            if pair.first == pair.second && pair.stage != Stage::Before {
                 return Ok(Some(self.joined(number, pair.first)?));
             }
             if pair.may_reduce {
                 self.reduce(tables, stacks, (number, pair, cost), Side::First)?;
             }
             self.reduce(tables, stacks, (number, pair, cost), Side::Second)?;
-            self.shift_all(tables, stacks, finder, (number, pair, cost))?;
+            self.shift_all(tables, stacks, shortest, (number, pair, cost))?;
         }
         Ok(None)
     }
 
-    /// The rules that can be reduced on a stack.
-    fn rules(
-        &mut self,
-        tables: &Tables,
-        stacks: &Stacks,
-        pair: Pair,
-        stack: usize,
-    ) -> Made<Vec<usize>> {
-        let state = stacks.top(stack);
-        let automaton = tables.automaton();
-        self.left = self.left.saturating_sub(items_of(automaton, state).len());
-        match pair.stage {
-            Stage::After => rules_in(self.alloc, automaton, state),
-            _ => rules_before(self.alloc, tables, state, self.cell.token),
-        }
-    }
-
-    /// One of the parses reduces.
+    /// One of the parses reduces, by each rule that it can: after the second one has, the first one
+    /// reduces no more before a symbol is shifted.
     fn reduce(
         &mut self,
         tables: &Tables,
@@ -217,18 +170,30 @@ impl Search {
         (number, pair, cost): (usize, Pair, u64),
         side: Side,
     ) -> Made<()> {
-        let stack = pair.stack(side);
-        let rules = self.rules(tables, stacks, pair, stack)?;
-        for rule in &rules {
-            if let Some(reduced) = stacks.reduced(tables.automaton(), stack, *rule)? {
-                let link = Link {
-                    from: number,
-                    side,
-                    deed: Deed::Reduce(*rule),
-                };
-                let pair = pair.reduced(side, reduced);
-                self.put(pair, cost.saturating_add(REDUCTION), link)?;
-            }
+        let is_first = side == Side::First;
+        let stack = if is_first { pair.first } else { pair.second };
+        let (automaton, state) = (tables.automaton(), stacks.top(stack));
+        self.left = self.left.saturating_sub(items_of(automaton, state).len());
+        let token = match pair.stage {
+            Stage::After => None,
+            Stage::Before | Stage::End => Some(self.cell.token),
+        };
+        for rule in &rules_in(self.alloc, tables, state, token)? {
+            let Some(reduced) = stacks.reduced(automaton, stack, *rule)? else {
+                continue;
+            };
+            let next = Pair {
+                first: if is_first { reduced } else { pair.first },
+                second: if is_first { pair.second } else { reduced },
+                may_reduce: pair.may_reduce && is_first,
+                ..pair
+            };
+            let link = Link {
+                from: number,
+                side,
+                deed: Deed::Reduce(*rule),
+            };
+            self.put(next, cost.saturating_add(REDUCTION), link)?;
         }
         Ok(())
     }
@@ -238,18 +203,18 @@ impl Search {
         &mut self,
         tables: &Tables,
         stacks: &mut Stacks,
-        finder: &Finder,
+        shortest: &Shortest,
         from: (usize, Pair, u64),
     ) -> Made<()> {
         let (automaton, pair) = (tables.automaton(), from.1);
         match pair.stage {
             Stage::End => Ok(()),
-            Stage::Before => self.shift(tables, stacks, finder, from, self.cell.token),
+            Stage::Before => self.shift(automaton, stacks, shortest, from, self.cell.token),
             Stage::After => {
                 for item in items_of(automaton, stacks.top(pair.first)) {
-                    let next = next_of(automaton.grammar(), *item);
-                    if let Some(symbol) = next.filter(|it| *it != END && *it != ERROR) {
-                        self.shift(tables, stacks, finder, from, symbol)?;
+                    let symbol = next_of(automaton.grammar(), *item).unwrap_or(END);
+                    if symbol != END && symbol != ERROR {
+                        self.shift(automaton, stacks, shortest, from, symbol)?;
                     }
                 }
                 Ok(())
@@ -260,16 +225,16 @@ impl Search {
     /// Both parses shift a symbol, where they can.
     fn shift(
         &mut self,
-        tables: &Tables,
+        automaton: &Automaton,
         stacks: &mut Stacks,
-        finder: &Finder,
+        shortest: &Shortest,
         (number, pair, cost): (usize, Pair, u64),
         symbol: Sym,
     ) -> Made<()> {
-        let first = stacks.shifted(tables.automaton(), pair.first, symbol)?;
-        let second = stacks.shifted(tables.automaton(), pair.second, symbol)?;
+        let first = stacks.shifted(automaton, pair.first, symbol)?;
+        let second = stacks.shifted(automaton, pair.second, symbol)?;
         if let (Some(first), Some(second)) = (first, second) {
-            let length = finder.length(&[symbol]).max(1);
+            let length = shortest.length(symbol).max(1);
             let link = Link {
                 from: number,
                 side: Side::Both,
@@ -296,9 +261,12 @@ impl Search {
         };
         let mut at = number;
         for _ in 0..self.links.len() {
-            let Some(link) = self.links.get(at).filter(|_| at > 0) else {
+            let Some(link) = self.links.get(at) else {
                 break;
             };
+            if at == 0 {
+                break;
+            }
             if link.side != Side::Second {
                 joined.first.push(link.deed)?;
             }

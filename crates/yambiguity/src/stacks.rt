@@ -26,11 +26,23 @@ pub struct Stacks {
 }
 
 impl Stacks {
-    /// The stack of the first state alone.
-    pub fn new(alloc: Global) -> Made<Stacks> {
+    /// The stacks of a parse after symbols from the first state on, where they can come, and the
+    /// number of the last one.
+    pub fn over(
+        alloc: Global,
+        automaton: &Automaton,
+        way: &[Sym],
+    ) -> Made<Option<(Stacks, usize)>> {
         let mut entries = IndexSet::new(alloc);
         entries.insert((0usize, BOTTOM))?;
-        Ok(Stacks { entries })
+        let (mut stacks, mut stack) = (Stacks { entries }, BOTTOM);
+        for symbol in way {
+            match stacks.shifted(automaton, stack, *symbol)? {
+                Some(next) => stack = next,
+                None => return Ok(None),
+            }
+        }
+        Ok(Some((stacks, stack)))
     }
 
     /// The top state of a stack.
@@ -90,17 +102,5 @@ impl Stacks {
             Some(left) => self.shifted(automaton, below, left),
             None => Ok(None),
         }
-    }
-
-    /// The stack after symbols from the first state on, where they can come.
-    pub fn over(&mut self, automaton: &Automaton, way: &[Sym]) -> Made<Option<usize>> {
-        let mut stack = BOTTOM;
-        for symbol in way {
-            match self.shifted(automaton, stack, *symbol)? {
-                Some(next) => stack = next,
-                None => return Ok(None),
-            }
-        }
-        Ok(Some(stack))
     }
 }

@@ -42,11 +42,6 @@ impl Trees {
         self.nodes.get(tree).copied()
     }
 
-    /// The symbol of a tree.
-    pub fn symbol(&self, tree: usize) -> Option<Sym> {
-        self.nodes.get(tree).map(|node| node.symbol)
-    }
-
     /// The children of a tree.
     pub fn children(&self, tree: usize) -> &[usize] {
         match self.nodes.get(tree) {
@@ -55,12 +50,7 @@ impl Trees {
         }
     }
 
-    /// Adds a token.
-    pub fn leaf(&mut self, token: Sym) -> Made<usize> {
-        self.add(token, None, &[], true)
-    }
-
-    /// Adds a tree of a rule, and says its number.
+    /// Adds a tree of a rule, or of a token, and says its number.
     pub fn add(
         &mut self,
         symbol: Sym,
@@ -81,19 +71,6 @@ impl Trees {
         Ok(number)
     }
 
-    /// Puts trees below the left side of a rule, where there are as many as its body has symbols:
-    /// the last ones of a stack.
-    fn reduce(&mut self, grammar: &Grammar, stack: &mut Vec<usize>, rule: usize) -> Made<bool> {
-        let rest = stack.len().checked_sub(body_of(grammar, rule).len());
-        let (Some(rest), Some(left)) = (rest, left_of(grammar, rule)) else {
-            return Ok(false);
-        };
-        let tree = self.add(left, Some(rule), stack.get(rest..).unwrap_or(&[]), false)?;
-        stack.truncate(rest);
-        stack.push(tree)?;
-        Ok(true)
-    }
-
     /// The tree that a parse makes, where it is one: the leaves stand for the symbols that it
     /// shifts.
     pub fn made(
@@ -103,25 +80,29 @@ impl Trees {
         deeds: &[Deed],
         leaves: &[usize],
     ) -> Made<Option<usize>> {
-        let mut stack = Vec::new(alloc);
-        let mut rest = leaves.iter();
+        let (mut stack, mut rest) = (Vec::new(alloc), leaves.iter());
         for deed in deeds {
-            let is_done = match deed {
-                Deed::Reduce(rule) => self.reduce(grammar, &mut stack, *rule)?,
-                Deed::Shift(_) => match rest.next() {
-                    Some(leaf) => {
-                        stack.push(*leaf)?;
-                        true
-                    }
-                    None => false,
-                },
+            let Deed::Reduce(rule) = deed else {
+                match rest.next() {
+                    Some(leaf) => stack.push(*leaf)?,
+                    None => return Ok(None),
+                }
+                continue;
             };
-            if !is_done {
+            let start = stack.len().checked_sub(body_of(grammar, *rule).len());
+            let (Some(start), Some(left)) = (start, left_of(grammar, *rule)) else {
                 return Ok(None);
-            }
+            };
+            let children = stack.get(start..).unwrap_or(&[]);
+            let tree = self.add(left, Some(*rule), children, false)?;
+            stack.truncate(start);
+            stack.push(tree)?;
         }
-        let is_one = stack.len() == 1;
-        Ok(stack.pop().filter(|_| is_one))
+        if stack.len() == 1 {
+            Ok(stack.pop())
+        } else {
+            Ok(None)
+        }
     }
 
     /// Whether two trees are equal; trees with more than so many nodes never are.
@@ -174,36 +155,30 @@ impl Trees {
         Ok(width)
     }
 
-    /// Goes down from two trees with equal roots to the children that differ, where these are two,
-    /// and counts the leaves before them.
-    fn narrower(&self, alloc: Global, both: (usize, usize)) -> Made<Option<(usize, usize, usize)>> {
-        if !self.have_equal_roots(both.0, both.1) {
-            return Ok(None);
-        }
-        let mut found = None;
-        let mut before: usize = 0;
-        for (one, other) in self.children(both.0).iter().zip(self.children(both.1)) {
-            if !self.are_equal(alloc, *one, *other)? {
-                if found.is_some() {
-                    return Ok(None);
-                }
-                found = Some((*one, *other, before));
-            }
-            before = before.saturating_add(self.width(alloc, *one)?);
-        }
-        Ok(found)
-    }
-
     /// The least trees in which two trees of one sentence differ, and how many leaves stand before
-    /// these.
+    /// these: it goes down from two with equal roots to their children, where two of these differ.
     pub fn least(&self, alloc: Global, both: (usize, usize)) -> Made<(usize, usize, usize)> {
-        let mut least = (both.0, both.1, 0usize);
+        let (mut least, mut leaves) = (both, 0usize);
         for _ in 0..MOST_NODES {
-            let Some((one, other, before)) = self.narrower(alloc, (least.0, least.1))? else {
+            if !self.have_equal_roots(least.0, least.1) {
                 break;
-            };
-            least = (one, other, least.2.saturating_add(before));
+            }
+            let (mut found, mut count, mut before) = (least, 0usize, leaves);
+            let mut at = leaves;
+            for (one, other) in self.children(least.0).iter().zip(self.children(least.1)) {
+                if !self.are_equal(alloc, *one, *other)? {
+                    found = (*one, *other);
+                    before = at;
+                    count = count.saturating_add(1);
+                }
+                at = at.saturating_add(self.width(alloc, *one)?);
+            }
+            if count != 1 {
+                break;
+            }
+            least = found;
+            leaves = before;
         }
-        Ok(least)
+        Ok((least.0, least.1, leaves))
     }
 }

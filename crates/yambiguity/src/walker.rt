@@ -10,16 +10,16 @@ use ysymbols::{Grammar, Sym};
 
 /// What a tree is to be: one of the start symbol, with these tokens, in which the rival stands
 /// after so many of them, with a way before it: the symbols that a parse has on its stack there.
-#[derive(Drop)]
-pub struct Claim {
+#[derive(Clone, Copy)]
+pub struct Claim<'a> {
     /// The sentence.
-    pub tokens: Vec<Sym>,
+    pub tokens: &'a [Sym],
     /// How many of its tokens stand before the conflict.
     pub dot: usize,
     /// The token of the conflict.
     pub token: Sym,
     /// The symbols on the stack.
-    pub way: Vec<Sym>,
+    pub way: &'a [Sym],
     /// The rival.
     pub choice: Choice,
 }
@@ -45,92 +45,65 @@ struct Walk {
     is_met: bool,
 }
 
-impl Claim {
-    /// Whether the token of the conflict comes after those before the conflict.
-    fn has_token(&self) -> bool {
-        match self.tokens.get(self.dot) {
-            Some(token) => *token == self.token,
-            None => self.token == END && self.tokens.len() == self.dot,
-        }
-    }
-}
-
 impl Walk {
     /// Whether the walk stands at the place of the conflict.
-    fn is_there(&self, claim: &Claim) -> bool {
-        self.tokens.len() == claim.dot && self.before.as_slice() == claim.way.as_slice()
+    fn is_there(&self, claim: Claim<'_>) -> bool {
+        self.tokens.len() == claim.dot && self.before.as_slice() == claim.way
     }
 
-    /// Goes over a tree, and says whether it is one of its rule.
-    fn enter(
-        &mut self,
-        grammar: &Grammar,
-        trees: &Trees,
-        claim: &Claim,
-        tree: usize,
-    ) -> Made<bool> {
-        let Some(node) = trees.node(tree) else {
-            return Ok(false);
-        };
-        match node.rule {
-            Some(rule) => self.enter_rule(grammar, trees, tree, node, rule),
-            None => self.enter_token(grammar, claim, node.symbol),
-        }
-    }
-
-    /// Goes over a token.
-    fn enter_token(&mut self, grammar: &Grammar, claim: &Claim, token: Sym) -> Made<bool> {
-        if claim.choice == Choice::Shift && token == claim.token && self.is_there(claim) {
-            self.is_met = true;
-        }
-        self.before.push(token)?;
-        self.tokens.push(token)?;
-        Ok(grammar.is_token(token))
-    }
-
-    /// Goes over a tree of a rule: its children come next.
+    /// Goes over a tree of a rule, whose children come next, and says whether it is one.
     fn enter_rule(
         &mut self,
         grammar: &Grammar,
         trees: &Trees,
-        tree: usize,
-        node: Node,
+        (tree, node): (usize, Node),
         rule: usize,
     ) -> Made<bool> {
-        let children = trees.children(tree);
-        let body = body_of(grammar, rule);
-        let mut pairs = children.iter().zip(body);
-        let are_right = pairs.all(|(child, symbol)| trees.symbol(*child) == Some(*symbol));
+        let (children, body) = (trees.children(tree), body_of(grammar, rule));
         self.open.push(Visit::Close(node, self.before.len()))?;
         for child in children.iter().rev() {
             self.open.push(Visit::Open(*child))?;
         }
-        let is_left = left_of(grammar, rule) == Some(node.symbol);
-        Ok(is_left && are_right && body.len() == children.len())
-    }
-
-    /// The symbol of a tree comes in place of its children.
-    fn leave(&mut self, claim: &Claim, node: Node, before: usize) -> Made<()> {
-        let rule = claim.choice.rule();
-        if rule.is_some() && rule == node.rule && self.is_there(claim) {
-            self.is_met = true;
+        for (child, symbol) in children.iter().zip(body) {
+            match trees.node(*child) {
+                Some(node) if node.symbol == *symbol => {}
+                _ => return Ok(false),
+            }
         }
-        self.before.truncate(before);
-        self.before.push(node.symbol)?;
-        Ok(())
+        Ok(left_of(grammar, rule) == Some(node.symbol) && body.len() == children.len())
     }
 
-    /// Goes over all, and says whether each tree is one of its rule.
-    fn go(&mut self, grammar: &Grammar, trees: &Trees, claim: &Claim) -> Made<bool> {
+    /// Goes over all, and says whether each tree is one of its rule. After its children the symbol
+    /// of a tree comes in place of these.
+    fn go(&mut self, grammar: &Grammar, trees: &Trees, claim: Claim<'_>) -> Made<bool> {
         for _ in 0..MOST_NODES {
-            match self.open.pop() {
+            let tree = match self.open.pop() {
                 None => return Ok(true),
-                Some(Visit::Close(node, before)) => self.leave(claim, node, before)?,
-                Some(Visit::Open(tree)) => {
-                    if !self.enter(grammar, trees, claim, tree)? {
-                        return Ok(false);
-                    }
+                Some(Visit::Close(node, before)) => {
+                    let rule = claim.choice.rule();
+                    let is_rule = rule.is_some() && rule == node.rule;
+                    self.is_met = self.is_met || (is_rule && self.is_there(claim));
+                    self.before.truncate(before);
+                    self.before.push(node.symbol)?;
+                    continue;
                 }
+                Some(Visit::Open(tree)) => tree,
+            };
+            let Some(node) = trees.node(tree) else {
+                break;
+            };
+            let is_right = match node.rule {
+                Some(rule) => self.enter_rule(grammar, trees, (tree, node), rule)?,
+                None => {
+                    let is_shift = claim.choice == Choice::Shift && node.symbol == claim.token;
+                    self.is_met = self.is_met || (is_shift && self.is_there(claim));
+                    self.before.push(node.symbol)?;
+                    self.tokens.push(node.symbol)?;
+                    grammar.is_token(node.symbol)
+                }
+            };
+            if !is_right {
+                break;
             }
         }
         Ok(false)
@@ -143,7 +116,7 @@ pub fn is_derivation(
     grammar: &Grammar,
     trees: &Trees,
     tree: usize,
-    claim: &Claim,
+    claim: Claim<'_>,
 ) -> Made<bool> {
     let mut walk = Walk {
         open: Vec::new(alloc),
@@ -156,12 +129,17 @@ pub fn is_derivation(
     let start = body_of(grammar, 0).get(..1).unwrap_or(&[]);
     // where the end is the token, the input is accepted: nothing is shifted
     let is_last = claim.choice == Choice::Shift && claim.token == END;
-    let is_accepted = is_last && claim.way.as_slice() == start;
+    let is_accepted = is_last && claim.way == start;
+    // the token of the conflict comes after those before it
+    let has_token = match claim.tokens.get(claim.dot) {
+        Some(token) => *token == claim.token,
+        None => claim.token == END && claim.tokens.len() == claim.dot,
+    };
     Ok(
         is_whole
             && (walk.is_met || is_accepted)
-            && claim.has_token()
+            && has_token
             && walk.before.as_slice() == start
-            && walk.tokens.as_slice() == claim.tokens.as_slice(),
+            && walk.tokens.as_slice() == claim.tokens,
     )
 }

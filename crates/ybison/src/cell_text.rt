@@ -1,11 +1,13 @@
 //! What is said of a cell that isn't bison's.
 
 use crate::compared::{Compared, Other};
-use crate::notes::{Source, put_place, put_span};
+use crate::notes::{Source, at_place, at_span};
 use crate::peer::Peer;
+use std::alloc::Global;
 use std::io::{self, Write};
 use yexplain::lines::{Lines, Spot};
 use yexplain::text::{Name, Numbered, RuleText};
+use yfiles::diagnostic::{Diagnostic, Diagnostics, Severity};
 use yforeign::lexeme::Span;
 use yimport::symbols::Ended;
 
@@ -37,151 +39,160 @@ impl<'a> CellText<'a> {
         RuleText(self.peer.grammar(), rule)
     }
 
-    /// Writes the file, and the place of a rule where it has one.
-    fn put_rule<W: Write>(self, out: &mut W, rule: usize) -> io::Result<()> {
+    /// What is said of a rule: at its place, where it has one.
+    fn of_rule(self, alloc: Global, rule: usize) -> io::Result<Diagnostic> {
         let spot = self.lines.spot(rule).unwrap_or(Spot::of_line(1));
-        let (path, columns) = (self.source.path, self.source.columns);
-        put_place(out, path, spot.told(columns), (b"", ""))
+        at_place(alloc, self.source.path, spot, (b"", ""))
     }
 
-    /// Writes the file, and the end that was taken out of a rule.
-    fn put_end<W: Write>(self, out: &mut W, rule: usize) -> io::Result<()> {
+    /// What is said of the end that was taken out of a rule.
+    fn of_end(self, alloc: Global, rule: usize) -> io::Result<Diagnostic> {
         match self.peer.end_of(rule).and_then(|end| self.ends.get(end)) {
-            Some(end) => put_span(out, self.source, end.span),
-            None => self.put_rule(out, rule),
+            Some(end) => at_span(alloc, self.source, end.span),
+            None => self.of_rule(alloc, rule),
         }
     }
 
-    /// Writes what bison does.
-    fn put_peer<W: Write>(self, out: &mut W) -> io::Result<()> {
+    /// Says what bison does.
+    fn say_peer(self, one: &mut Diagnostic) -> io::Result<()> {
         match (self.other.left.shift, self.other.left.first) {
-            (false, Some(rule)) => write!(out, "bison reduces by {}", self.numbered(rule)),
-            _ => write!(out, "bison shifts {}", self.name()),
+            (false, Some(rule)) => {
+                write!(one.message, "bison reduces by {}", self.numbered(rule))
+            }
+            _ => write!(one.message, "bison shifts {}", self.name()),
         }
     }
 
-    /// Writes that a file is refused for a rule of the token's level that bison doesn't compare,
-    /// since another wins before.
-    fn put_passed<W: Write>(self, out: &mut W, rule: usize, winner: usize) -> io::Result<()> {
+    /// That a file is refused for a rule of the token's level that bison doesn't compare, since
+    /// another wins before.
+    fn passed(self, alloc: Global, rule: usize, winner: usize) -> io::Result<Diagnostic> {
         let (name, state) = (self.name(), self.other.state);
         let (number, text) = (self.numbered(rule), self.text(rule));
-        self.put_rule(out, rule)?;
+        let mut one = self.of_rule(alloc, rule)?;
         write!(
-            out,
+            one.message,
             "refused: {name} in state {state}: {} {} wins against the shift, and bison compares no \
              rule after it; ",
             self.numbered(winner),
             self.text(winner)
         )?;
-        self.put_peer(out)?;
-        writeln!(
-            out,
+        self.say_peer(&mut one)?;
+        write!(
+            one.message,
             "; {number} {text} has the level of {name}, a nonassociative one, so yacc has an error"
-        )
+        )?;
+        Ok(one)
     }
 
-    /// Writes that a file is refused for a rule of the token's level, which is one of
-    /// `%precedence`.
-    fn put_equal<W: Write>(self, out: &mut W, rule: usize, level: Span) -> io::Result<()> {
+    /// That a file is refused for a rule of the token's level, which is one of `%precedence`.
+    fn equal(self, alloc: Global, rule: usize, level: Span) -> io::Result<Diagnostic> {
         let (name, state, source) = (self.name(), self.other.state, self.source);
-        put_place(out, source.path, source.spot(level), (b"%precedence", ""))?;
+        let mut one = at_place(alloc, source.path, source.spot(level), (b"%precedence", ""))?;
         write!(
-            out,
+            one.message,
             "refused: {name} and the rule {} have one level of it, and meet in state {state}: ",
             self.text(rule)
         )?;
         match self.other.left.winner {
-            None => writeln!(out, "a conflict to bison, an error to yacc"),
+            None => one.say("a conflict to bison, an error to yacc")?,
             Some(_) => {
-                write!(out, "an error to yacc; ")?;
-                self.put_peer(out)?;
-                writeln!(out)
+                one.say("an error to yacc; ")?;
+                self.say_peer(&mut one)?;
             }
         }
+        Ok(one)
     }
 
-    /// Writes what comes of an end that was taken out of a rule: the file is refused, or bison has
-    /// a conflict of another kind.
-    fn put_ended<W: Write>(self, out: &mut W, rule: usize, is_refused: bool) -> io::Result<()> {
+    /// What comes of an end that was taken out of a rule: the file is refused, or bison has a
+    /// conflict of another kind.
+    fn ended(self, alloc: Global, rule: usize, is_refused: bool) -> io::Result<Diagnostic> {
         let state = self.other.state;
         let first = self.other.left.first.unwrap_or(rule);
-        self.put_end(out, rule)?;
+        let mut one = self.of_end(alloc, rule)?;
         let (ended, other) = (self.numbered(rule), self.numbered(first));
         if is_refused {
-            return writeln!(
-                out,
+            write!(
+                one.message,
                 "refused: without it {ended} and {other} could both be reduced at the end in state \
                  {state}, and yacc would reduce by {other}; bison has a shift/reduce conflict, and \
                  shifts it"
-            );
+            )?;
+        } else {
+            write!(
+                one.message,
+                "without it {ended} and {other} have a reduce/reduce conflict at the end in state \
+                 {state}, a shift/reduce one to bison; both choose {ended}"
+            )?;
         }
-        writeln!(
-            out,
-            "without it {ended} and {other} have a reduce/reduce conflict at the end in state \
-             {state}, a shift/reduce one to bison; both choose {ended}"
-        )
+        Ok(one)
     }
 
-    /// Writes why a file is refused for a cell in which bison does something else.
-    pub fn put_refused<W: Write>(self, out: &mut W) -> io::Result<()> {
+    /// Why a file is refused for a cell in which bison does something else.
+    pub fn refused(self, alloc: Global) -> io::Result<Diagnostic> {
         let left = self.other.left;
         if let Some(rule) = left.ended {
-            return self.put_ended(out, rule, true);
+            return self.ended(alloc, rule, true);
         }
         let rule = left.passed.or(left.first).unwrap_or(0);
         match (self.peer.level_of(rule), left.winner) {
-            (Some(level), _) => self.put_equal(out, rule, level),
-            (None, Some(winner)) => self.put_passed(out, rule, winner),
+            (Some(level), _) => self.equal(alloc, rule, level),
+            (None, Some(winner)) => self.passed(alloc, rule, winner),
             (None, None) => {
-                self.put_rule(out, rule)?;
+                let mut one = self.of_rule(alloc, rule)?;
                 let (name, state) = (self.name(), self.other.state);
                 write!(
-                    out,
+                    one.message,
                     "refused: yacc does something else in state {state} on {name}: "
                 )?;
-                self.put_peer(out)?;
-                writeln!(out)
+                self.say_peer(&mut one)?;
+                Ok(one)
             }
         }
     }
 
-    /// Writes that a cell has a conflict to bison and none here, or one of another kind.
-    pub fn put_conflict<W: Write>(self, out: &mut W) -> io::Result<()> {
+    /// That a cell has a conflict to bison and none here, or one of another kind.
+    pub fn conflict(self, alloc: Global) -> io::Result<Diagnostic> {
         let left = self.other.left;
         if let Some(rule) = left.ended {
-            return self.put_ended(out, rule, false);
+            return self.ended(alloc, rule, false);
         }
         let rule = left.second.or(left.first).unwrap_or(0);
         let first = left.first.unwrap_or(rule);
         let (name, state) = (self.name(), self.other.state);
-        self.put_rule(out, rule)?;
-        writeln!(
-            out,
+        let mut one = self.of_rule(alloc, rule)?;
+        write!(
+            one.message,
             "{} and {} have a reduce/reduce conflict to bison on {name} in state {state}, since it \
              compares no rule with {name} once that can't be shifted; yacc counts none, and does \
              the same",
             self.numbered(first),
             self.numbered(rule)
-        )
+        )?;
+        Ok(one)
     }
 }
 
-/// Writes how many cells more have conflicts of bison alone, and how many of `yacc` alone.
-pub fn put_cells<W: Write>(out: &mut W, path: &str, found: &Compared) -> io::Result<()> {
-    if found.conflicts > 1 {
-        let more = found.conflicts.saturating_sub(1);
-        writeln!(
-            out,
-            "{path}: cells more with conflicts that aren't those of bison: {more}"
-        )?;
-    }
-    if found.cut > 0 {
-        let cut = found.cut;
-        writeln!(
-            out,
-            "{path}: cells with conflicts in states that no parse reaches, which bison leaves out: \
-             {cut}"
-        )?;
+/// Tells how many cells more have conflicts of bison alone, and how many of `yacc` alone.
+pub fn add_cells(
+    alloc: Global,
+    told: &mut Diagnostics,
+    path: &str,
+    found: &Compared,
+) -> io::Result<()> {
+    let more = found.conflicts.saturating_sub(1);
+    for (count, what) in [
+        (more, "cells more with conflicts that aren't those of bison"),
+        (
+            found.cut,
+            "cells with conflicts in states that no parse reaches, which bison leaves out",
+        ),
+    ] {
+        if count > 0 {
+            let mut one = Diagnostic::new(alloc, Some(path), None)?;
+            one.severity = Severity::Warning;
+            write!(one.message, "{what}: {count}")?;
+            told.add(one)?;
+        }
     }
     Ok(())
 }

@@ -1,8 +1,8 @@
 //! `ydebug import`.
 
-use crate::cell_text::{CellText, put_cells};
+use crate::cell_text::{CellText, add_cells};
 use crate::compared::{Compared, Counts, Other};
-use crate::notes::{Source, Telling, put_expected, put_notes, put_span};
+use crate::notes::{Source, Telling, add_expected, add_notes};
 use crate::opening::{Origin, open_bytes};
 use crate::peer::Peer;
 use std::alloc::Global;
@@ -10,12 +10,16 @@ use std::io::{self, ErrorKind, Write};
 use std::rt::Files;
 use yexplain::lines::is_inner;
 use yexplain::reads::{Made, grammar_of};
-use yfaults::opening::{Opened, Trouble, grammar_bytes, put_trouble, put_unread};
+use yfaults::opening::{Opened, Trouble, add_trouble, grammar_bytes};
+use yfiles::diagnostic::{Diagnostic, Diagnostics, Severity};
+use yfiles::place::Place;
+use yfiles::reading::unread;
 use yfiles::same::refused_outputs;
 use yfiles::writing::put_output;
+use yforeign::directive::is_imported;
 use ygrammar::{GrammarFault, LONGEST_FILE, PlacedFault};
 use yimport::import::{Imported, import};
-use yimport::refusal;
+use yimport::refusal::{self, Refused};
 use yimport::symbols::{Ended, Expected};
 use ysymbols::Grammar;
 
@@ -57,28 +61,31 @@ fn ended_rules(alloc: Global, grammar: &Grammar, ends: &[Ended]) -> Made<Vec<Opt
     Ok(ended)
 }
 
-/// Writes what was changed, and which conflicts aren't those of bison.
-fn put_changes<E: Write>(
-    errors: &mut E,
+/// Tells what was changed, and which conflicts aren't those of bison.
+fn add_changes(
+    alloc: Global,
+    told: &mut Diagnostics,
     asked: Looked<'_>,
     found: &Compared,
     text: Option<CellText<'_>>,
 ) -> io::Result<()> {
     let (source, imported, stay) = (asked.source, asked.imported, found.conflicts_stay());
-    put_notes(errors, source, imported, asked.telling, stay)?;
+    add_notes(alloc, told, source, imported, asked.telling, stay)?;
     if let Some(text) = text {
-        text.put_conflict(errors)?;
+        let mut one = text.conflict(alloc)?;
+        one.severity = Severity::Warning;
+        told.add(one)?;
     }
-    put_cells(errors, source.path, found)?;
-    put_expected(errors, source, imported, found.counts)
+    add_cells(alloc, told, source.path, found)?;
+    add_expected(alloc, told, source, imported, found.counts)
 }
 
 /// Compares the cells of what a file becomes with bison's, says what is to be said of the import,
 /// and gives the conflicts as bison counts them, or the exit status where bison does something else
 /// in a cell.
-fn look_at<E: Write>(
+fn look_at(
     alloc: Global,
-    errors: &mut E,
+    told: &mut Diagnostics,
     asked: Looked<'_>,
     opened: &Opened,
 ) -> io::Result<Result<Counts, u8>> {
@@ -100,42 +107,47 @@ fn look_at<E: Write>(
     };
     match found.deed {
         Some(other) => {
-            text(other).put_refused(errors)?;
+            told.add(text(other).refused(alloc)?)?;
             Ok(Err(1))
         }
         None => {
-            put_changes(errors, asked, &found, found.conflict.map(text))?;
+            add_changes(alloc, told, asked, &found, found.conflict.map(text))?;
             Ok(Ok(found.counts))
         }
     }
 }
 
-/// Writes why what a file becomes isn't opened, with the column that the place has in the file
+/// Says why what a file becomes isn't opened, with the column that the place has in the file
 /// itself, where it has one.
-fn put_unopened<E: Write>(
+fn add_unopened(
     alloc: Global,
-    errors: &mut E,
+    told: &mut Diagnostics,
     asked: Looked<'_>,
     trouble: &Trouble<'_>,
 ) -> io::Result<()> {
     let (path, imported) = (asked.source.path, asked.imported);
     if trouble.status() == 1 {
-        writeln!(
-            errors,
-            "{path}: refused: yacc would refuse what it becomes:"
-        )?;
+        let mut one = Diagnostic::new(alloc, Some(path), None)?;
+        one.say("refused: yacc would refuse what it becomes:")?;
+        told.add(one)?;
     }
+    add_trouble(alloc, told, (path, &imported.text), trouble)?;
     let place = trouble.place();
     let original = place.and_then(|at| imported.pieces.original_place(at));
-    let column = original.and_then(|at| asked.source.column(at));
-    put_trouble(errors, alloc, (path, &imported.text), trouble, column)
+    let source = asked.source.bytes;
+    let column = original.and_then(|at| Place { path, source, at }.spot().column);
+    if let Some(spot) = told.all.last_mut().and_then(|one| one.spot.as_mut()) {
+        // lines are the same in both
+        spot.column = column;
+    }
+    Ok(())
 }
 
 /// Opens what a file becomes as `yacc` does, with its conflicts, where all its cells are the same;
 /// else says why not, and gives the exit status.
-fn open_imported<E: Write>(
+fn open_imported(
     alloc: Global,
-    errors: &mut E,
+    told: &mut Diagnostics,
     asked: Looked<'_>,
 ) -> io::Result<Result<(Opened, Counts), u8>> {
     let (bytes, imported) = (asked.source.bytes, asked.imported);
@@ -144,37 +156,79 @@ fn open_imported<E: Write>(
     let opened = match open_bytes(alloc, &imported.text, origin) {
         Ok(opened) => opened,
         Err(trouble) => {
-            put_unopened(alloc, errors, asked, &trouble)?;
+            add_unopened(alloc, told, asked, &trouble)?;
             return Ok(Err(trouble.status()));
         }
     };
-    match look_at(alloc, errors, asked, &opened)? {
+    match look_at(alloc, told, asked, &opened)? {
         Ok(counts) => Ok(Ok((opened, counts))),
         Err(status) => Ok(Err(status)),
     }
 }
 
-/// What a file becomes; else says why it isn't imported, and gives the exit status.
-fn imported_from<E: Write>(
+/// Says why a file isn't imported.
+fn add_refused(
     alloc: Global,
-    errors: &mut E,
+    told: &mut Diagnostics,
+    source: Source<'_>,
+    refused: Refused,
+) -> io::Result<()> {
+    let (path, source, at) = (source.path, source.bytes, refused.span.from);
+    let mut one = Diagnostic::at(alloc, Place { path, source, at }, true)?;
+    one.say(refused.refusal.text())?;
+    Ok(told.add(one)?)
+}
+
+/// What a file becomes; else says why it isn't imported, and gives the exit status.
+fn imported_from(
+    alloc: Global,
+    told: &mut Diagnostics,
     source: Source<'_>,
 ) -> io::Result<Result<Imported, u8>> {
-    let Source { path, bytes, .. } = source;
+    let Source { path, bytes } = source;
     if bytes.len() > LONGEST_FILE {
         let trouble = Trouble::of_text(alloc, TOO_LONG);
-        put_trouble(errors, alloc, (path, bytes), &trouble, None)?;
+        add_trouble(alloc, told, (path, bytes), &trouble)?;
         return Ok(Err(1));
     }
     match import(alloc, bytes) {
         Ok(imported) => Ok(Ok(imported)),
         Err(refusal::Trouble::Refused(refused)) => {
-            put_span(errors, source, refused.span)?;
-            let why = refused.refusal.text();
-            writeln!(errors, "refused: {why}")?;
+            add_refused(alloc, told, source, refused)?;
             Ok(Err(1))
         }
         Err(refusal::Trouble::Memory) => Err(io::Error::from(ErrorKind::OutOfMemory)),
+    }
+}
+
+/// What a file becomes, where `yacc` takes that; else the exit status. What is said of it is told.
+fn imported_of<F: Files + AllocGlobal>(
+    rt: &F,
+    told: &mut Diagnostics,
+    path: &str,
+) -> io::Result<Result<Imported, u8>> {
+    let alloc = rt.alloc();
+    let bytes = match grammar_bytes(rt, path) {
+        Ok(bytes) => bytes,
+        Err(error) => return unread(alloc, told, path, error).map(Err),
+    };
+    let source = Source {
+        path,
+        bytes: &bytes,
+    };
+    let imported = match imported_from(alloc, told, source)? {
+        Ok(imported) => imported,
+        Err(status) => return Ok(Err(status)),
+    };
+    let looked = Looked {
+        source,
+        imported: &imported,
+        telling: Telling::All,
+    };
+    let opened = open_imported(alloc, told, looked)?;
+    match opened {
+        Ok(_) => Ok(Ok(imported)),
+        Err(status) => Ok(Err(status)),
     }
 }
 
@@ -190,27 +244,11 @@ pub fn run_import<F: Files + AllocGlobal, W: Write, E: Write>(
     if let Some(status) = refused_outputs(rt, &[asked.output], &[asked.file], errors)? {
         return Ok(status);
     }
-    let (alloc, path) = (rt.alloc(), asked.file);
-    let read = match grammar_bytes(rt, path) {
-        Ok(bytes) => bytes,
-        Err(error) => return put_unread(errors, path, error),
-    };
-    let source = Source {
-        path,
-        bytes: &read,
-        columns: false,
-    };
-    let imported = match imported_from(alloc, errors, source)? {
-        Ok(imported) => imported,
-        Err(status) => return Ok(status),
-    };
-    let looked = Looked {
-        source,
-        imported: &imported,
-        telling: Telling::All,
-    };
-    match open_imported(alloc, errors, looked)? {
-        Ok(_) => put_output(rt, asked.output, &imported.text, out, errors),
+    let mut told = Diagnostics::new(rt.alloc());
+    let imported = imported_of(rt, &mut told, asked.file)?;
+    told.put(errors, "ydebug")?;
+    match imported {
+        Ok(imported) => put_output(rt, asked.output, &imported.text, out, errors),
         Err(status) => Ok(status),
     }
 }
@@ -248,11 +286,11 @@ impl Foreign {
 }
 
 /// Opens the grammar that the bytes of a file of bison become, by an import that was made. Only
-/// changes by which the language or a conflict can change are written to `errors`. Where the file
-/// is refused, that is written, and the exit status is the answer.
-pub fn open_import<E: Write>(
+/// changes by which the language or a conflict can change are told. Where the file is refused, that
+/// is said, and the exit status is the answer.
+pub fn open_import(
     alloc: Global,
-    errors: &mut E,
+    told: &mut Diagnostics,
     source: Source<'_>,
     imported: Imported,
 ) -> io::Result<Result<Foreign, u8>> {
@@ -261,7 +299,7 @@ pub fn open_import<E: Write>(
         imported: &imported,
         telling: Telling::Weighty,
     };
-    match open_imported(alloc, errors, looked)? {
+    match open_imported(alloc, told, looked)? {
         Ok((opened, counts)) => Ok(Ok(Foreign {
             imported,
             opened,
@@ -271,14 +309,98 @@ pub fn open_import<E: Write>(
     }
 }
 
-/// Opens the grammar that the bytes of a file of bison become, likewise.
-pub fn open_foreign<E: Write>(
+/// How a grammar file is read.
+#[derive(Clone, Copy, Drop, PartialEq, Eq)]
+pub enum Dialect {
+    /// As `yacc` reads it, and in no other way.
+    Yacc,
+    /// As `yacc` reads it; by an import, where it has what only bison or byacc takes.
+    Seen,
+    /// By an import.
+    Bison,
+}
+
+/// A grammar file that is open.
+#[derive(Drop)]
+pub enum Read {
+    /// One that `yacc` takes.
+    Plain(Opened),
+    /// One of bison or byacc.
+    Foreign(Foreign),
+}
+
+/// Whether the place where `yacc` stops reading begins with what an import takes, or an import
+/// comes beyond it, up to a place.
+fn is_foreign(bytes: &[u8], trouble: &Trouble<'_>, end: usize) -> bool {
+    let Trouble::Grammar(refusal) = trouble else {
+        return false;
+    };
+    let at = refusal.placed.at;
+    let rest = bytes.get(at..).unwrap_or(&[]);
+    let is_passed = match refusal.placed.fault {
+        GrammarFault::BadNumber { .. } => at <= end,
+        GrammarFault::BadLiteral { .. }
+        | GrammarFault::Foreign { .. }
+        | GrammarFault::Syntax { .. } => at < end,
+        _ => false,
+    };
+    rest.starts_with(b"//") || is_imported(rest) || is_passed
+}
+
+/// What a file becomes that `yacc` refuses for this reason, where it has what only bison or byacc
+/// takes; else says why it isn't opened, and gives the exit status.
+pub fn import_of(
     alloc: Global,
-    errors: &mut E,
+    told: &mut Diagnostics,
     source: Source<'_>,
-) -> io::Result<Result<Foreign, u8>> {
-    match imported_from(alloc, errors, source)? {
-        Ok(imported) => open_import(alloc, errors, source, imported),
+    trouble: &Trouble<'_>,
+) -> io::Result<Result<Imported, u8>> {
+    let Source { path, bytes } = source;
+    if bytes.len() <= LONGEST_FILE && !matches!(trouble, Trouble::Memory) {
+        match import(alloc, bytes) {
+            Ok(imported) if !imported.notes.is_empty() => return Ok(Ok(imported)),
+            Err(refusal::Trouble::Refused(refused))
+                if is_foreign(bytes, trouble, refused.span.from) => {
+                add_refused(alloc, told, source, refused)?;
+                return Ok(Err(1));
+            }
+            Err(refusal::Trouble::Memory) => {
+                return Err(io::Error::from(ErrorKind::OutOfMemory));
+            }
+            Ok(_) | Err(refusal::Trouble::Refused(_)) => {}
+        }
+    }
+    add_trouble(alloc, told, (path, bytes), trouble)?;
+    Ok(Err(trouble.status()))
+}
+
+/// Opens a grammar file. What is to be said of it is told; where it is refused, the exit status is
+/// the answer.
+pub fn open_grammar(
+    alloc: Global,
+    told: &mut Diagnostics,
+    source: Source<'_>,
+    dialect: Dialect,
+) -> io::Result<Result<Read, u8>> {
+    let imported = if dialect == Dialect::Bison {
+        imported_from(alloc, told, source)?
+    } else {
+        match open_bytes(alloc, source.bytes, None) {
+            Ok(opened) => return Ok(Ok(Read::Plain(opened))),
+            Err(trouble) if dialect == Dialect::Seen => {
+                import_of(alloc, told, source, &trouble)?
+            }
+            Err(trouble) => {
+                add_trouble(alloc, told, (source.path, source.bytes), &trouble)?;
+                return Ok(Err(trouble.status()));
+            }
+        }
+    };
+    match imported {
+        Ok(imported) => match open_import(alloc, told, source, imported)? {
+            Ok(foreign) => Ok(Ok(Read::Foreign(foreign))),
+            Err(status) => Ok(Err(status)),
+        },
         Err(status) => Ok(Err(status)),
     }
 }

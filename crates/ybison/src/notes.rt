@@ -1,9 +1,10 @@
 //! What is said of an import.
 
 use crate::compared::Counts;
+use std::alloc::Global;
 use std::io::{self, Write};
-use yexplain::lines::Spot;
-use yfaults::shown::Place;
+use yfiles::diagnostic::{Diagnostic, Diagnostics, Severity};
+use yfiles::place::{Place, Spot};
 use yforeign::lexeme::Span;
 use yimport::import::Imported;
 use yimport::note::{Effect, How};
@@ -12,34 +13,24 @@ use yimport::symbols::Expected;
 /// The most bytes of the file that a line shows.
 const MOST_SHOWN: usize = 40;
 
-/// A grammar file: its path and its bytes, and how its places are written.
+/// A grammar file: its path and its bytes.
 #[derive(Clone, Copy)]
 pub struct Source<'a> {
     /// The path.
     pub path: &'a str,
     /// The bytes.
     pub bytes: &'a [u8],
-    /// Whether places have their columns, as programs want them.
-    pub columns: bool,
 }
 
 impl Source<'_> {
-    /// The column of a place, where columns are written.
-    pub fn column(self, at: usize) -> Option<usize> {
+    /// Where a part begins.
+    pub fn spot(self, span: Span) -> Spot {
         let Source {
             path,
             bytes: source,
-            columns,
         } = self;
-        Place { path, source, at }.column(columns)
-    }
-
-    /// Where a part begins, as it is written.
-    pub fn spot(self, span: Span) -> Spot {
-        Spot {
-            line: span.line,
-            column: self.column(span.from),
-        }
+        let at = span.from;
+        Place { path, source, at }.spot()
     }
 }
 
@@ -55,43 +46,45 @@ fn shown(source: &[u8], from: usize, to: usize) -> (&[u8], &'static str) {
     (text.get(..end).unwrap_or(text), dots)
 }
 
-/// Writes the file, a place of it, and what stands there.
-pub fn put_place<W: Write>(
-    out: &mut W,
+/// What is said of a place of a file: it begins with what stands there.
+pub fn at_place(
+    alloc: Global,
     path: &str,
     spot: Spot,
     (text, dots): (&[u8], &str),
-) -> io::Result<()> {
-    write!(out, "{path}:{spot}: ")?;
+) -> io::Result<Diagnostic> {
+    let mut one = Diagnostic::new(alloc, Some(path), Some(spot))?;
     if !text.is_empty() {
-        out.write_all(text)?;
-        write!(out, "{dots}: ")?;
+        one.message.write_all(text)?;
+        one.say(dots)?;
+        one.say(": ")?;
     }
-    Ok(())
+    Ok(one)
 }
 
-/// Writes the file, the place of a part of it, and what stands there.
-pub fn put_span<W: Write>(out: &mut W, source: Source<'_>, span: Span) -> io::Result<()> {
+/// What is said of a part of a file, likewise.
+pub fn at_span(alloc: Global, source: Source<'_>, span: Span) -> io::Result<Diagnostic> {
     let text = shown(source.bytes, span.from, span.to);
-    put_place(out, source.path, source.spot(span), text)
+    at_place(alloc, source.path, source.spot(span), text)
 }
 
-/// Writes how something is changed.
-fn put_how<W: Write>(out: &mut W, texts: &[u8], how: How) -> io::Result<()> {
-    match how {
-        How::Out => write!(out, "taken out"),
-        How::ToMark => write!(out, "moved in front of the first %%"),
-        How::ToEnd => write!(out, "moved to the end of its body"),
+/// Says how something is changed.
+fn say_how(one: &mut Diagnostic, texts: &[u8], how: How) -> io::Result<()> {
+    let words = match how {
+        How::Out => "taken out",
+        How::ToMark => "moved in front of the first %%",
+        How::ToEnd => "moved to the end of its body",
         How::Becomes(from, to) => {
             let (text, dots) = shown(texts, from, to);
-            write!(out, "becomes ")?;
-            out.write_all(text)?;
-            write!(out, "{dots}")
+            one.say("becomes ")?;
+            one.message.write_all(text)?;
+            dots
         }
-    }
+    };
+    Ok(one.say(words)?)
 }
 
-/// Which changes are written.
+/// Which changes are told.
 #[derive(Clone, Copy, PartialEq, Eq)]
 pub enum Telling {
     /// All of them.
@@ -100,9 +93,10 @@ pub enum Telling {
     Weighty,
 }
 
-/// Writes the changes, and whether conflicts stay with them.
-pub fn put_notes<W: Write>(
-    out: &mut W,
+/// Tells the changes, and whether conflicts stay with them.
+pub fn add_notes(
+    alloc: Global,
+    told: &mut Diagnostics,
     source: Source<'_>,
     imported: &Imported,
     telling: Telling,
@@ -111,18 +105,21 @@ pub fn put_notes<W: Write>(
     for note in &imported.notes {
         let effect = note.reason.effect();
         if telling == Telling::All || !matches!(effect, Effect::None) {
-            put_span(out, source, note.span)?;
-            put_how(out, &imported.texts, note.how)?;
+            let mut one = at_span(alloc, source, note.span)?;
+            one.severity = Severity::Warning;
+            say_how(&mut one, &imported.texts, note.how)?;
             let (why, effect) = (note.reason.text(), effect.text(conflicts_stay));
-            writeln!(out, "; {why}; {effect}")?;
+            write!(one.message, "; {why}; {effect}")?;
+            told.add(one)?;
         }
     }
     Ok(())
 }
 
-/// Writes where the conflicts that a file expects aren't those that bison would count.
-pub fn put_expected<W: Write>(
-    out: &mut W,
+/// Tells where the conflicts that a file expects aren't those that bison would count.
+pub fn add_expected(
+    alloc: Global,
+    told: &mut Diagnostics,
     source: Source<'_>,
     imported: &Imported,
     counts: Counts,
@@ -136,11 +133,14 @@ pub fn put_expected<W: Write>(
             continue;
         };
         if number != found {
-            let (path, spot) = (source.path, source.spot(span));
-            writeln!(
-                out,
-                "{path}:{spot}: {word} {number}: {kind} conflicts, as bison counts them: {found}"
+            let spot = Some(source.spot(span));
+            let mut one = Diagnostic::new(alloc, Some(source.path), spot)?;
+            one.severity = Severity::Warning;
+            write!(
+                one.message,
+                "{word} {number}: {kind} conflicts, as bison counts them: {found}"
             )?;
+            told.add(one)?;
         }
     }
     Ok(())

@@ -1,11 +1,9 @@
 //! Grammar files opened.
 
-use crate::notes::Source;
 use std::alloc::Global;
-use std::io::{self, Write};
 use yexplain::lines::{Lines, Spot, Spots, spots_of};
 use yexplain::reads::Made;
-use yfaults::opening::{Opened, Trouble, put_trouble};
+use yfaults::opening::{Opened, Trouble};
 use ygrammar::{Grammar, Mapped, Mark, read_mapped};
 use yimport::pieces::Pieces;
 use ylalr::build;
@@ -91,22 +89,5 @@ pub fn open_bytes<'a>(
     match lines_of(alloc, source, origin, &marks, &grammar) {
         Ok(lines) => tables_over(alloc, grammar, lines),
         Err(_) => Err(Trouble::Memory),
-    }
-}
-
-/// Opens a grammar file. Where it is refused, that is written, and the exit status is the answer.
-pub fn open_text<W: Write>(
-    alloc: Global,
-    source: Source<'_>,
-    errors: &mut W,
-) -> io::Result<Result<Opened, u8>> {
-    let Source { path, bytes, .. } = source;
-    match open_bytes(alloc, bytes, None) {
-        Ok(opened) => Ok(Ok(opened)),
-        Err(trouble) => {
-            let column = trouble.place().and_then(|at| source.column(at));
-            put_trouble(errors, alloc, (path, bytes), &trouble, column)?;
-            Ok(Err(trouble.status()))
-        }
     }
 }

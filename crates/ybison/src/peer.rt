@@ -1,10 +1,10 @@
 //! What bison does in a cell (bison 3.8, conflicts.c): it compares the rules with the shift one
 //! after the other, as long as the shift is there.
 
-use ycells::Candidate;
 use yexplain::reads::{candidate_of, rule_of, shift_of};
 use yforeign::lexeme::Span;
 use ylalr::END;
+use yreasons::Candidate;
 use ysymbols::{Grammar, Sym};
 use ytables::{Class, Tables};
 

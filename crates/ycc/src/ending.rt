@@ -1,11 +1,11 @@
 //! How the program ends, and what it says then.
 
-use std::alloc::{AllocError, AllocGlobal};
-use std::fmt::Display;
+use std::alloc::{AllocError, AllocFailed, AllocGlobal};
 use std::io::{self, Write};
-use yexplain::lines::Spots;
-use yfaults::shown::Place;
+use yfiles::diagnostic::Diagnostic;
+use yfiles::place::Place;
 use yfiles::steady::Steady;
+use youtput::Output;
 use yskeleton::Misuse;
 
 /// How the program ends.
@@ -35,6 +35,12 @@ impl From<AllocError> for Ending {
     }
 }
 
+impl<T: Drop> From<AllocFailed<T>> for Ending {
+    fn from(_refused: AllocFailed<T>) -> Ending {
+        Ending::Memory
+    }
+}
+
 impl From<io::Error> for Ending {
     fn from(error: io::Error) -> Ending {
         match error.kind() {
@@ -57,77 +63,82 @@ pub struct File {
     pub is_bison: bool,
 }
 
+/// Says what a text says, and gives how the program ends.
+pub fn say(rt: &HostRuntime, mut text: Output, ending: Ending) -> Ending {
+    match text.finish(&mut rt.stderr()) {
+        Err(error) if error.kind() == io::ErrorKind::OutOfMemory => Ending::Memory,
+        _ => ending,
+    }
+}
+
+/// Says a line of some parts, as far as it can be said; it takes no memory.
+pub fn tell(rt: &HostRuntime, parts: &[&str]) {
+    for part in parts {
+        let _ = rt.stderr().write_all(part.as_bytes());
+    }
+    let _ = rt.stderr().write_all(b"\n");
+}
+
 /// Says that a file can't be opened, read or written, or that memory ran out.
 pub fn outside(rt: &HostRuntime, what: &str, path: &str, error: &io::Error) -> Ending {
     if error.kind() == io::ErrorKind::OutOfMemory {
         return Ending::Memory;
     }
-    let _ = writeln!(rt.stderr(), "ycc: cannot {what} {path}");
+    tell(rt, &["ycc: cannot ", what, " ", path]);
     Ending::Outside
 }
 
 impl File {
-    /// Writes what is wrong at a place, with the text of its line.
-    fn put_place<W: Write>(&self, out: &mut W, at: usize) -> io::Result<()> {
-        let path = self.path.as_str();
-        let source = self.bytes.as_slice();
-        Place { path, source, at }.put_text(out, true)
-    }
-
-    /// Writes the path and the line of a place.
-    fn put_line<W: Write>(&self, out: &mut W, at: usize) -> io::Result<()> {
-        let line = Spots::new(&self.bytes).reach(at).0;
-        let path = self.path.as_str();
-        write!(out, "{path}:{line}: ")
+    /// What is wrong at a place, of which nothing is said yet.
+    fn at(&self, rt: &HostRuntime, at: usize) -> io::Result<Diagnostic> {
+        let (path, source) = (self.path.as_str(), self.bytes.as_slice());
+        Diagnostic::at(rt.alloc(), Place { path, source, at }, true)
     }
 
     /// Says why a file is refused that is at a place.
     pub fn refuse(&self, rt: &HostRuntime, at: usize, why: &str) -> Ending {
-        let mut out = Steady::new(rt.stderr(), true);
-        let said = self
-            .put_line(&mut out, at)
-            .and_then(|()| writeln!(out, "{why}"));
-        match said.and_then(|()| self.put_place(&mut out, at)) {
-            Ok(()) => Ending::Refused,
-            Err(error) => Ending::from(error),
+        let said = self.at(rt, at).and_then(|mut one| {
+            one.say(why)?;
+            Ok(one)
+        });
+        refuse_by(rt, said)
+    }
+
+    /// What is wrong with a value that an action names.
+    fn misuse(&self, rt: &HostRuntime, misuse: Misuse, at: usize) -> io::Result<Diagnostic> {
+        let mut one = self.at(rt, at)?;
+        match misuse {
+            Misuse::OutOfRange(number, seen) => write!(
+                one.message,
+                "${number} is out of range: {seen} symbols stand before this action"
+            )?,
+            Misuse::UntypedLeft => one.say(
+                "$$ has no tag, and other symbols have: give it one by %token or %type, or here as \
+                 $<tag>$",
+            )?,
+            Misuse::Untyped(number) => write!(
+                one.message,
+                "${number} has no tag, and other symbols have: give it one by %token or %type, or \
+                 here as $<tag>{number}"
+            )?,
+            Misuse::Unknown => one.say("no symbol before this action has this name")?,
+            Misuse::Ambiguous => one.say(
+                "several symbols have this name: give each its own in brackets, as in expr[left]",
+            )?,
         }
+        Ok(one)
     }
 
     /// Says what is wrong with a value that an action names, and at which place.
-    pub fn put_misused(&self, rt: &HostRuntime, misuse: Misuse, at: usize) -> io::Result<()> {
-        let mut out = Steady::new(rt.stderr(), true);
-        self.put_line(&mut out, at)?;
-        put_misuse(&mut out, misuse)?;
-        self.put_place(&mut out, at)
+    pub fn misused(&self, rt: &HostRuntime, misuse: Misuse, at: usize) -> Ending {
+        refuse_by(rt, self.misuse(rt, misuse, at))
     }
 }
 
-/// Writes what is wrong with a value, and how to mend it.
-fn put_misuse<W: Write>(out: &mut W, misuse: Misuse) -> io::Result<()> {
-    match misuse {
-        Misuse::OutOfRange(number, seen) => {
-            writeln!(
-                out,
-                "${number} is out of range: {seen} symbols stand before this action"
-            )
-        }
-        Misuse::UntypedLeft => put_untyped(out, "$"),
-        Misuse::Untyped(number) => put_untyped(out, number),
-        Misuse::Unknown => writeln!(out, "no symbol before this action has this name"),
-        Misuse::Ambiguous => {
-            writeln!(
-                out,
-                "several symbols have this name: give each its own in brackets, as in expr[left]"
-            )
-        }
+/// Says why a grammar file is refused.
+fn refuse_by(rt: &HostRuntime, said: io::Result<Diagnostic>) -> Ending {
+    match said.and_then(|one| one.put(&mut Steady::new(rt.stderr(), true), "ycc")) {
+        Ok(()) => Ending::Refused,
+        Err(error) => Ending::from(error),
     }
-}
-
-/// Writes that a value has no tag, and how to give it one.
-fn put_untyped<W: Write, N: Copy + Display>(out: &mut W, name: N) -> io::Result<()> {
-    write!(out, "${name} has no tag, and other symbols have: ")?;
-    writeln!(
-        out,
-        "give it one by %token or %type, or here as $<tag>{name}"
-    )
 }

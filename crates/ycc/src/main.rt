@@ -13,86 +13,61 @@ mod names;
 mod reading;
 mod words;
 
-use crate::ending::{Ending, File, outside};
+use crate::ending::{Ending, File, outside, say, tell};
 use crate::making::write_files;
-use crate::reading::{Reading, read};
+use crate::reading::read;
 use crate::words::{Given, USAGE, VERSION, command, given_in, is_idle, is_other, variables_in};
 use clap::error::ErrorKind;
-use clap::{ArgMatches, Command};
-use std::alloc::AllocError;
 use std::io::Write;
 use std::process::ExitCode;
 use yexplain::text::Escaped;
 use yfaults::opening::grammar_bytes;
 use yfiles::arguments::{Arguments, arguments_of};
-use yfiles::steady::Steady;
+use youtput::Output;
 use yparts::options::{Options, Purity};
 
-/// The text between the braces or quotes of a value, and whether they are braces.
-fn unwrapped(value: &[u8]) -> (&[u8], bool) {
-    match value {
-        [b'{', code @ .., b'}'] => (code, true),
-        [b'"', text @ .., b'"'] => (text, false),
-        _ => (value, false),
-    }
-}
-
-/// A name and the value after it.
-fn halves(variable: &[u8]) -> (&[u8], &[u8]) {
-    match variable.iter().position(|byte| *byte == b'=') {
-        Some(at) => (
-            variable.get(..at).unwrap_or(&[]),
-            variable.get(at + 1..).unwrap_or(&[]),
-        ),
-        None => (variable, &[]),
-    }
-}
-
-/// Sets a variable that words have.
-fn define_one<'a>(
+/// Sets the variables that words have, each with a zero after it. Braces or quotes around a value
+/// are left out.
+fn define<'a>(
     rt: &HostRuntime,
-    variable: &'a [u8],
+    variables: &'a [u8],
     options: &mut Options<'a>,
 ) -> Result<(), Ending> {
-    let (name, value) = halves(variable);
-    let (value, is_code) = unwrapped(value);
-    options.is_bison = true;
-    if let Err(refusal) = options.define(name, value, is_code) {
-        let why = refusal.text();
-        let mut out = Steady::new(rt.stderr(), true);
-        out.write_all(b"ycc: -D ")?;
-        out.write_all(variable)?;
-        writeln!(out, ": {why}")?;
-        return Err(Ending::Refused);
-    }
-    Ok(())
-}
-
-/// Sets the variables that words have, each with a zero after it.
-fn define<'a>(rt: &HostRuntime, variables: &'a [u8], read: &mut Reading<'a>) -> Result<(), Ending> {
     for variable in variables.split(|byte| *byte == 0) {
-        if !variable.is_empty() {
-            let options = &mut read.parts.options;
-            define_one(rt, variable, options)?;
+        if variable.is_empty() {
+            continue;
+        }
+        let equals = variable.iter().position(|byte| *byte == b'=');
+        let end = equals.unwrap_or(variable.len());
+        let name = variable.get(..end).unwrap_or(variable);
+        let value = variable.get(end.saturating_add(1)..).unwrap_or(&[]);
+        let (value, is_code) = match value {
+            [b'{', code @ .., b'}'] => (code, true),
+            [b'"', text @ .., b'"'] => (text, false),
+            _ => (value, false),
+        };
+        options.is_bison = true;
+        if let Err(refusal) = options.define(name, value, is_code) {
+            let mut out = Output::new(rt.alloc());
+            out.put("ycc: -D ");
+            out.put_bytes(variable);
+            out.put(": ");
+            out.line(refusal.text());
+            return Err(say(rt, out, Ending::Refused));
         }
     }
     Ok(())
 }
 
-/// Takes wishes of words as if the file had them.
-fn wish(given: Given<'_>, read: &mut Reading<'_>) {
-    let options = &mut read.parts.options;
+/// Does what words ask for with a grammar file; their wishes are taken as if the file had them.
+fn generate(rt: &HostRuntime, given: Given<'_>, file: &File) -> Result<(), Ending> {
+    let mut found = read(rt, file)?;
+    let options = &mut found.parts.options;
     if given.pure {
         options.purity = Purity::Yes;
     }
     options.locations = options.locations || given.locations;
-}
-
-/// Does what words ask for with a grammar file.
-fn generate(rt: &HostRuntime, given: Given<'_>, file: &File) -> Result<(), Ending> {
-    let mut found = read(rt, file)?;
-    wish(given, &mut found);
-    define(rt, file.variables.as_slice(), &mut found)?;
+    define(rt, file.variables.as_slice(), options)?;
     write_files(rt, given, file, &found)?;
     if found.is_told {
         Ok(())
@@ -109,7 +84,7 @@ fn obey(rt: &HostRuntime, given: Given<'_>, variables: Vec<u8>) -> Result<(), En
         Err(error) => return Err(outside(rt, "read", name, &error)),
     };
     let file = File {
-        path: format!(in rt.alloc(); "{name}")?,
+        path: String::from_str(rt.alloc(), name)?,
         bytes,
         is_bison: given.bison || !variables.is_empty(),
         variables,
@@ -117,50 +92,32 @@ fn obey(rt: &HostRuntime, given: Given<'_>, variables: Vec<u8>) -> Result<(), En
     generate(rt, given, &file)
 }
 
-/// Writes the help that was asked for.
-fn put_help(rt: &HostRuntime, help: &clap::Error) -> Ending {
-    let Ok(text) = format!(in rt.alloc(); "{help}") else {
-        return Ending::Memory;
-    };
-    put_asked(rt, text.as_bytes())
-}
-
-/// Writes what was asked for.
-fn put_asked(rt: &HostRuntime, text: &[u8]) -> Ending {
-    match rt.stdout().write_all(text) {
-        Ok(()) => Ending::Helped,
-        Err(_) => Ending::Outside,
-    }
-}
-
 /// Why words are refused. Help that they ask for is written.
 fn refused_for(rt: &HostRuntime, error: &clap::Error) -> Ending {
     match error.kind() {
-        ErrorKind::DisplayHelp | ErrorKind::DisplayVersion => put_help(rt, error),
+        ErrorKind::DisplayHelp | ErrorKind::DisplayVersion => {
+            let mut out = Output::new(rt.alloc());
+            out.show(error);
+            match out.finish(&mut rt.stdout()) {
+                Ok(()) => Ending::Helped,
+                Err(error) => Ending::from(error),
+            }
+        }
         ErrorKind::OutOfMemory => Ending::Memory,
         _ => Ending::Words,
-    }
-}
-
-/// What the command line makes of words.
-fn matches_by<'a>(
-    rt: &HostRuntime,
-    command: Command<'a>,
-    words: &'a [&'a str],
-) -> Result<ArgMatches<'a>, Ending> {
-    match command.try_get_matches_from(words) {
-        Ok(matches) => Ok(matches),
-        Err(error) => Err(refused_for(rt, &error)),
     }
 }
 
 /// Answers a word that asks for a version or for what `ycc` doesn't have.
 fn answer(rt: &HostRuntime, word: &str) -> Result<(), Ending> {
     if word == "--version" || word == "-V" {
-        return Err(put_asked(rt, VERSION));
+        return match rt.stdout().write_all(VERSION) {
+            Ok(()) => Err(Ending::Helped),
+            Err(_) => Err(Ending::Outside),
+        };
     }
     if is_other(word) {
-        let _ = writeln!(rt.stderr(), "ycc: no {word}: ycc has no such output");
+        tell(rt, &["ycc: no ", word, ": ycc has no such output"]);
         return Err(Ending::Words);
     }
     Ok(())
@@ -171,9 +128,11 @@ fn arguments_in(rt: &HostRuntime) -> Result<Vec<String>, Ending> {
     match arguments_of(rt)? {
         Arguments::All(given) => Ok(given),
         Arguments::NoText(bytes) => {
-            let argument = Escaped(&bytes);
-            let _ = writeln!(rt.stderr(), "ycc: {argument} is no UTF-8 text");
-            Err(Ending::Arguments)
+            let mut out = Output::new(rt.alloc());
+            out.put("ycc: ");
+            out.show(Escaped(&bytes));
+            out.line(" is no UTF-8 text");
+            Err(say(rt, out, Ending::Arguments))
         }
     }
 }
@@ -185,10 +144,13 @@ fn run(rt: &HostRuntime) -> Result<(), Ending> {
     for word in &given {
         answer(rt, word)?;
         if !is_idle(word) {
-            words.push(word.as_str()).map_err(AllocError::from)?;
+            words.push(word.as_str())?;
         }
     }
-    let matches = matches_by(rt, command(rt.alloc())?, &words)?;
+    let matches = match command(rt.alloc())?.try_get_matches_from(words.as_slice()) {
+        Ok(matches) => matches,
+        Err(error) => return Err(refused_for(rt, &error)),
+    };
     let variables = variables_in(rt.alloc(), &matches)?;
     match given_in(&matches) {
         Some(given) => obey(rt, given, variables),

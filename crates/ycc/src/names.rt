@@ -19,16 +19,6 @@ pub struct Names {
     pub table: String,
 }
 
-/// Endings of files in C and C++, each with that of its headers.
-const ENDINGS: [(&str, &str); 6] = [
-    (".c", ".h"),
-    (".cc", ".hh"),
-    (".cpp", ".hpp"),
-    (".cxx", ".hxx"),
-    (".c++", ".h++"),
-    (".C", ".H"),
-];
-
 /// Endings of grammar files, each with those of the parser and of its header.
 const GRAMMARS: [(&str, &str, &str); 6] = [
     (".y", ".c", ".h"),
@@ -42,9 +32,19 @@ const GRAMMARS: [(&str, &str, &str); 6] = [
 /// The endings of a parser in C and its header.
 const PLAIN: (&str, &str) = (".c", ".h");
 
-/// A path without the ending of a file in C, and the ending of its header.
+/// The end of a stem of which a report has no use, and the ending of tables.
+const TAB: &str = ".tab";
+
+/// A text and what follows it.
+fn joined(alloc: Global, front: &str, end: &str) -> Made<String> {
+    let mut path = String::from_str(alloc, front)?;
+    path.push_str(end)?;
+    Ok(path)
+}
+
+/// A path without the ending of a parser in C, and the ending of its header.
 fn cut(path: &str) -> (&str, &'static str) {
-    for (ending, header) in ENDINGS {
+    for (_, ending, header) in GRAMMARS {
         if let Some(stem) = path.strip_suffix(ending) {
             return (stem, header);
         }
@@ -52,40 +52,33 @@ fn cut(path: &str) -> (&str, &'static str) {
     (path, ".h")
 }
 
-/// The end of a stem of which a report has no use.
-const TAB: &str = ".tab";
-
 /// The names where the file of the parser is named.
 fn names_by_parser(alloc: Global, path: &str) -> Made<Names> {
     let (stem, header) = cut(path);
     let report = stem.strip_suffix(TAB).unwrap_or(stem);
     Ok(Names {
-        parser: format!(in alloc; "{path}")?,
-        header: format!(in alloc; "{stem}{header}")?,
-        report: format!(in alloc; "{report}.output")?,
-        table: format!(in alloc; "{report}.tab")?,
+        parser: String::from_str(alloc, path)?,
+        header: joined(alloc, stem, header)?,
+        report: joined(alloc, report, ".output")?,
+        table: joined(alloc, report, TAB)?,
     })
 }
 
 /// The names that begin with a prefix, with the endings of the parser and of its header.
 fn names_by_prefix(alloc: Global, prefix: &str, (parser, header): (&str, &str)) -> Made<Names> {
+    let table = joined(alloc, prefix, TAB)?;
     Ok(Names {
-        parser: format!(in alloc; "{prefix}.tab{parser}")?,
-        header: format!(in alloc; "{prefix}.tab{header}")?,
-        report: format!(in alloc; "{prefix}.output")?,
-        table: format!(in alloc; "{prefix}.tab")?,
+        parser: joined(alloc, &table, parser)?,
+        header: joined(alloc, &table, header)?,
+        report: joined(alloc, prefix, ".output")?,
+        table,
     })
-}
-
-/// What follows the last slash of a path.
-fn base(path: &str) -> &str {
-    path.rsplit('/').next().unwrap_or(path)
 }
 
 /// What comes before the ending of a grammar file, and the endings of its parser and header, as
 /// bison has them.
 fn named_by(path: &str) -> (&str, (&'static str, &'static str)) {
-    let name = base(path);
+    let name = path.rsplit('/').next().unwrap_or(path);
     for (ending, parser, header) in GRAMMARS {
         if let Some(stem) = name.strip_suffix(ending) {
             return (stem, (parser, header));
@@ -96,10 +89,10 @@ fn named_by(path: &str) -> (&str, (&'static str, &'static str)) {
 
 /// A text of a file as one of words, where it can be one.
 fn word(text: Option<&[u8]>) -> Option<&str> {
-    text.and_then(|bytes| str::from_utf8(bytes).ok())
+    str::from_utf8(text?).ok()
 }
 
-/// The names of all files but the header's, where that is named.
+/// The names of all files but those that are named by themselves.
 fn names_for(
     alloc: Global,
     given: Given<'_>,
@@ -111,13 +104,9 @@ fn names_for(
     }
     let (stem, named) = named_by(given.grammar);
     let is_yacc = given.yacc || options.is_yacc || !is_bison;
-    let endings = if is_yacc { PLAIN } else { named };
+    let (own, endings) = if is_yacc { ("y", PLAIN) } else { (stem, named) };
     let prefix = given.files.or(word(options.file_prefix));
-    match prefix {
-        Some(prefix) => names_by_prefix(alloc, prefix, endings),
-        None if is_yacc => names_by_prefix(alloc, "y", endings),
-        None => names_by_prefix(alloc, stem, endings),
-    }
+    names_by_prefix(alloc, prefix.unwrap_or(own), endings)
 }
 
 /// The names of the files that words and a file ask for.
@@ -133,13 +122,14 @@ pub fn names_of(
         Header::No | Header::Beside => None,
     };
     if let Some(path) = given.header.or(header) {
-        names.header = format!(in alloc; "{path}")?;
+        names.header = String::from_str(alloc, path)?;
     }
-    if let Some(path) = given.report.filter(|path| !path.is_empty()) {
-        names.report = format!(in alloc; "{path}")?;
+    let (report, table) = (given.report.unwrap_or(""), given.table.unwrap_or(""));
+    if !report.is_empty() {
+        names.report = String::from_str(alloc, report)?;
     }
-    if let Some(path) = given.table.filter(|path| !path.is_empty()) {
-        names.table = format!(in alloc; "{path}")?;
+    if !table.is_empty() {
+        names.table = String::from_str(alloc, table)?;
     }
     Ok(names)
 }

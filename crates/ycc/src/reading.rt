@@ -1,21 +1,21 @@
 //! A grammar file read: one that `yacc` takes as `yacc` reads it, any other by its import.
 
 use crate::ending::{Ending, File};
-use std::io::{self, Write};
-use ybison::import::{Foreign, open_import};
+use ybison::import::{Foreign, import_of, open_import};
 use ybison::notes::Source;
-use yfaults::opening::{Opened, Trouble as Unopened, put_trouble};
+use yexplain::reads::grammar_of;
+use yfaults::opening::{Opened, Trouble as Unopened, add_trouble};
+use yfiles::diagnostic::Diagnostics;
 use yfiles::steady::Steady;
-use yforeign::directive::is_imported;
-use ygrammar::{Grammar, GrammarFault, LONGEST_FILE, Mapped, Mark, read_mapped};
-use yimport::import::{Imported, import};
-use yimport::refusal::Trouble as Unimported;
+use ygrammar::{Grammar, Mapped, Mark, read_mapped};
+use yimport::import::Imported;
 use yimport::symbols::Expected;
 use ylalr::build;
+use youtput::Output;
 use yparts::parts::Parts;
 use yparts::refusal::{Refusal, Trouble as Unmade};
 use yparts::{foreign, native};
-use ytables::{Counts, Tables, resolve};
+use ytables::{Tables, resolve};
 
 /// A grammar file read.
 #[derive(Drop)]
@@ -28,12 +28,18 @@ pub struct Reading<'a> {
     pub is_told: bool,
 }
 
-/// Says why a grammar file has no tables.
-fn refused(rt: &HostRuntime, file: &File, trouble: &Unopened<'_>) -> Ending {
-    let (path, bytes) = (file.path.as_str(), file.bytes.as_slice());
-    let mut errors = Steady::new(rt.stderr(), true);
-    match put_trouble(&mut errors, rt.alloc(), (path, bytes), trouble, None) {
-        Ok(()) if trouble.status() == 1 => Ending::Refused,
+/// The file as what is said of it names it.
+fn source_of(file: &File) -> Source<'_> {
+    Source {
+        path: &file.path,
+        bytes: &file.bytes,
+    }
+}
+
+/// Says what was told of a grammar file, which is refused with this status.
+fn refused(rt: &HostRuntime, told: &Diagnostics, status: u8) -> Ending {
+    match told.put(&mut Steady::new(rt.stderr(), true), "ycc") {
+        Ok(()) if status == 1 => Ending::Refused,
         Ok(()) => Ending::Outside,
         Err(error) => Ending::from(error),
     }
@@ -55,23 +61,15 @@ fn map<'a>(rt: &HostRuntime, bytes: &'a [u8]) -> Result<(Grammar, Vec<Mark<'a>>)
     }
 }
 
-/// The tables of a grammar; where there are too many states, that is said.
-fn tables_of(rt: &HostRuntime, file: &File, grammar: Grammar) -> Result<Tables, Ending> {
-    match build(rt.alloc(), grammar) {
-        Ok(automaton) => resolve(rt.alloc(), automaton).map_err(|_| Ending::Memory),
-        Err(fault) => Err(refused(rt, file, &Unopened::from(fault))),
-    }
-}
-
 /// Says how many conflicts there are, where there are some.
-fn put_conflicts<E: Write>(errors: &mut E, first: u64, second: u64) -> io::Result<()> {
-    if first == 0 && second == 0 {
-        return Ok(());
+fn put_conflicts(out: &mut Output, first: u64, second: u64) {
+    if first > 0 || second > 0 {
+        out.put("conflicts: ");
+        out.show(first);
+        out.put(" shift/reduce, ");
+        out.show(second);
+        out.line(" reduce/reduce");
     }
-    writeln!(
-        errors,
-        "conflicts: {first} shift/reduce, {second} reduce/reduce"
-    )
 }
 
 /// A file that `yacc` takes.
@@ -80,14 +78,22 @@ fn read_native<'a>(
     file: &'a File,
     (grammar, marks): (Grammar, Vec<Mark<'a>>),
 ) -> Result<Reading<'a>, Ending> {
-    let parts = native::parts_of(rt.alloc(), file.bytes.as_slice(), &grammar, &marks)?;
-    let tables = tables_of(rt, file, grammar)?;
-    let Counts {
-        shift_reduce,
-        reduce_reduce,
-    } = tables.conflicts();
+    let alloc = rt.alloc();
+    let parts = native::parts_of(alloc, file.bytes.as_slice(), &grammar, &marks)?;
+    let automaton = match build(alloc, grammar) {
+        Ok(automaton) => automaton,
+        Err(fault) => {
+            let (trouble, mut told) = (Unopened::from(fault), Diagnostics::new(alloc));
+            add_trouble(alloc, &mut told, (&file.path, &file.bytes), &trouble)?;
+            return Err(refused(rt, &told, trouble.status()));
+        }
+    };
+    let tables = resolve(alloc, automaton).map_err(|_| Ending::Memory)?;
+    let counts = tables.conflicts();
     let mut errors = Steady::new(rt.stderr(), true);
-    put_conflicts(&mut errors, shift_reduce, reduce_reduce)?;
+    let mut out = Output::new(alloc);
+    put_conflicts(&mut out, counts.shift_reduce, counts.reduce_reduce);
+    out.finish(&mut errors)?;
     Ok(Reading {
         tables,
         parts,
@@ -95,73 +101,60 @@ fn read_native<'a>(
     })
 }
 
-/// What a foreign file says of its parser; where that is refused, it is said.
-fn parts_in<'a, 'b>(
-    rt: &HostRuntime,
-    file: &'a File,
-    grammar: &'b Grammar,
-    imported: &'b Imported,
-) -> Result<Parts<'a>, Ending> {
-    match foreign::parts_of(rt.alloc(), &file.bytes, grammar, imported, file.is_bison) {
-        Ok(parts) => Ok(parts),
-        Err(Unmade::Memory) => Err(Ending::Memory),
-        Err(Unmade::Refused(refusal, at)) => match file.refuse(rt, at, refusal.text()) {
-            Ending::Refused if refusal == Refusal::Later => Err(Ending::Later),
-            ending => Err(ending),
-        },
-    }
-}
-
-/// Says how many conflicts a foreign file has, unless it expects some; where it expects others,
-/// it is refused, and that was said, but of reduce/reduce conflicts of bison.
-fn count<E: Write>(
-    errors: &mut E,
-    file: &File,
-    foreign: &Foreign,
-    is_bison: bool,
-) -> Result<(), Ending> {
+/// Says how many conflicts a foreign file has, unless it expects some. Where it is refused for
+/// others, that was said, but of reduce/reduce conflicts of bison.
+fn put_counts(out: &mut Output, source: Source<'_>, foreign: &Foreign, is_bison: bool) {
     let (imported, counts) = (&foreign.imported, foreign.counts);
     let reduces = counts.reduce_reduce;
-    if let (Some(Expected { span, number }), true) = (
-        imported.shift_reduce,
-        is_bison && reduces > 0,
-    ) {
-        let (path, line) = (file.path.as_str(), span.line);
-        writeln!(
-            errors,
-            "{path}:{line}: %expect {number}: unexpected reduce/reduce conflicts: {reduces}"
-        )?;
+    let is_counted = is_bison || imported.reduce_reduce.is_none();
+    match imported.shift_reduce {
+        Some(Expected { span, number }) if is_bison && reduces > 0 => {
+            out.put(source.path);
+            out.put(":");
+            out.show(source.spot(span));
+            out.put(": error: %expect ");
+            out.number(number);
+            out.put(": unexpected reduce/reduce conflicts: ");
+            out.number(reduces);
+            out.line("");
+        }
+        None if is_counted && !foreign.surprises(is_bison) => {
+            put_conflicts(out, counts.shift_reduce as u64, reduces as u64);
+        }
+        _ => {}
     }
-    if foreign.surprises(is_bison) {
-        return Err(Ending::Refused);
-    }
-    if imported.shift_reduce.is_none() && (is_bison || imported.reduce_reduce.is_none()) {
-        put_conflicts(errors, counts.shift_reduce as u64, reduces as u64)?;
-    }
-    Ok(())
 }
 
-/// A file that an import made one of `yacc`.
+/// A file that an import made one of `yacc`. Where what it says of its parser is refused, that is
+/// said.
 fn read_imported<'a>(
     rt: &HostRuntime,
     file: &'a File,
     imported: Imported,
 ) -> Result<Reading<'a>, Ending> {
-    let (path, bytes) = (file.path.as_str(), file.bytes.as_slice());
-    let source = Source {
-        path,
-        bytes,
-        columns: false,
+    let (alloc, source) = (rt.alloc(), source_of(file));
+    let mut told = Diagnostics::new(alloc);
+    let foreign = match open_import(alloc, &mut told, source, imported)? {
+        Ok(foreign) => foreign,
+        Err(status) => return Err(refused(rt, &told, status)),
     };
     let mut errors = Steady::new(rt.stderr(), true);
-    let foreign = match open_import(rt.alloc(), &mut errors, source, imported)? {
-        Ok(foreign) => foreign,
-        Err(3) => return Err(Ending::Outside),
-        Err(_) => return Err(Ending::Refused),
+    told.put(&mut errors, "ycc")?;
+    let (grammar, imported) = (grammar_of(&foreign.opened.tables), &foreign.imported);
+    let parts = match foreign::parts_of(alloc, &file.bytes, grammar, imported, file.is_bison) {
+        Ok(parts) => parts,
+        Err(Unmade::Memory) => return Err(Ending::Memory),
+        Err(Unmade::Refused(refusal, at)) => match file.refuse(rt, at, refusal.text()) {
+            Ending::Refused if refusal == Refusal::Later => return Err(Ending::Later),
+            ending => return Err(ending),
+        },
     };
-    let grammar = foreign.opened.tables.automaton().grammar();
-    let parts = parts_in(rt, file, grammar, &foreign.imported)?;
-    count(&mut errors, file, &foreign, parts.options.is_bison)?;
+    let mut out = Output::new(alloc);
+    put_counts(&mut out, source, &foreign, parts.options.is_bison);
+    out.finish(&mut errors)?;
+    if foreign.surprises(parts.options.is_bison) {
+        return Err(Ending::Refused);
+    }
     let Foreign { opened, .. } = foreign;
     let Opened { tables, .. } = opened;
     Ok(Reading {
@@ -171,48 +164,16 @@ fn read_imported<'a>(
     })
 }
 
-/// Whether the place where `yacc` stops reading begins with what an import takes, or an import
-/// comes beyond it, up to a place.
-fn is_foreign(bytes: &[u8], trouble: &Unopened<'_>, end: usize) -> bool {
-    let Unopened::Grammar(refusal) = trouble else {
-        return false;
-    };
-    let at = refusal.placed.at;
-    let rest = bytes.get(at..).unwrap_or(&[]);
-    let is_passed = match refusal.placed.fault {
-        GrammarFault::BadNumber { .. } => at <= end,
-        GrammarFault::BadLiteral { .. }
-        | GrammarFault::Foreign { .. }
-        | GrammarFault::Syntax { .. } => at < end,
-        _ => false,
-    };
-    rest.starts_with(b"//") || is_imported(rest) || is_passed
-}
-
-/// A file that `yacc` refuses for this reason.
-fn read_other<'a>(
-    rt: &HostRuntime,
-    file: &'a File,
-    trouble: &Unopened<'_>,
-) -> Result<Reading<'a>, Ending> {
-    if file.bytes.len() > LONGEST_FILE || matches!(trouble, Unopened::Memory) {
-        return Err(refused(rt, file, trouble));
-    }
-    match import(rt.alloc(), file.bytes.as_slice()) {
-        Ok(imported) if imported.notes.is_empty() => Err(refused(rt, file, trouble)),
-        Ok(imported) => read_imported(rt, file, imported),
-        Err(Unimported::Memory) => Err(Ending::Memory),
-        Err(Unimported::Refused(found)) if is_foreign(&file.bytes, trouble, found.span.from) => {
-            Err(file.refuse(rt, found.span.from, found.refusal.text()))
-        }
-        Err(Unimported::Refused(_)) => Err(refused(rt, file, trouble)),
-    }
-}
-
 /// What a grammar file means and says; where it is refused, that is said.
 pub fn read<'a>(rt: &HostRuntime, file: &'a File) -> Result<Reading<'a>, Ending> {
     match map(rt, file.bytes.as_slice()) {
         Ok(mapped) => read_native(rt, file, mapped),
-        Err(trouble) => read_other(rt, file, &trouble),
+        Err(trouble) => {
+            let mut told = Diagnostics::new(rt.alloc());
+            match import_of(rt.alloc(), &mut told, source_of(file), &trouble)? {
+                Ok(imported) => read_imported(rt, file, imported),
+                Err(status) => Err(refused(rt, &told, status)),
+            }
+        }
     }
 }

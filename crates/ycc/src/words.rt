@@ -1,7 +1,7 @@
 //! The command line of `ycc`.
 
 use clap::{Arg, ArgAction, ArgMatches, Command};
-use std::alloc::{AllocError, Global};
+use std::alloc::Global;
 use yexplain::reads::Made;
 
 /// What is written to standard error where the words are refused.
@@ -51,159 +51,146 @@ pub struct Given<'a> {
     pub messages: Option<&'a str>,
 }
 
-/// A flag.
-fn flag<'a>(alloc: Global, name: &'a str, help: &'a str) -> Arg<'a> {
-    let arg = Arg::new(alloc, name).long(name);
-    arg.action(ArgAction::SetTrue).help(help)
+/// What a word of the command line has.
+#[derive(Clone, Copy, PartialEq, Eq)]
+enum Has {
+    /// Nothing.
+    Nothing,
+    /// A value, which is shown so.
+    Value(&'static str),
+    /// A value each time that it is given, which is shown so.
+    Values(&'static str),
+    /// A value after an equals sign, which may be left out.
+    Perhaps(&'static str),
 }
 
-/// An option with a value.
-fn option<'a>(
-    alloc: Global,
-    letter: char,
-    (name, shown): (&'a str, &'a str),
-    help: &'a str,
-) -> Arg<'a> {
-    let arg = Arg::new(alloc, name).short(letter).value_name(shown);
-    arg.action(ArgAction::Set).help(help)
+/// A word of the command line: what it is called, its letter, and what it has.
+type Word = (&'static str, Option<char>, Has);
+
+/// The words of the command line in the order of its help. One of a letter has no other name.
+const WORDS: [Word; 22] = [
+    ("d", Some('d'), Has::Nothing),
+    ("no-lines", Some('l'), Has::Nothing),
+    ("debug", Some('t'), Has::Nothing),
+    ("verbose", Some('v'), Has::Nothing),
+    ("yacc", Some('y'), Has::Nothing),
+    ("P", Some('P'), Has::Nothing),
+    ("locations", Some('L'), Has::Nothing),
+    ("bison", None, Has::Nothing),
+    ("bison-lists", None, Has::Nothing),
+    ("file-prefix", Some('b'), Has::Value("PREFIX")),
+    ("output", Some('o'), Has::Value("FILE")),
+    ("name-prefix", Some('p'), Has::Value("PREFIX")),
+    ("H", Some('H'), Has::Value("FILE")),
+    ("messages", None, Has::Value("FILE")),
+    ("define", Some('D'), Has::Values("NAME=VALUE")),
+    ("defines", None, Has::Perhaps("FILE")),
+    ("header", None, Has::Perhaps("FILE")),
+    ("table", None, Has::Perhaps("FILE")),
+    ("report", None, Has::Perhaps("THINGS")),
+    ("r", Some('r'), Has::Value("THINGS")),
+    ("report-file", None, Has::Perhaps("FILE")),
+    ("warnings", None, Has::Perhaps("KINDS")),
+];
+
+/// The help for a word.
+fn help_of(name: &str) -> &'static str {
+    match name {
+        "d" => "Writes a header too",
+        "no-lines" => "Writes no #line",
+        "debug" => "The parser can trace its steps",
+        "verbose" => "Writes the report on states too",
+        "yacc" => "The files have the names that yacc gives them",
+        "P" => "The parser has no variables that its calls share",
+        "locations" => "Symbols have places",
+        "bison" => "Order and names of bison, also where no directive asks for them",
+        "bison-lists" => "Errors list the tokens that bison would list",
+        "file-prefix" => "What the names of the files begin with",
+        "output" => "The file of the parser",
+        "name-prefix" => "What names in C begin with, yy unless given",
+        "H" => "Writes the header to this file",
+        "messages" => "The parser says the messages of this file for its errors",
+        "define" => "Sets a variable of %define",
+        "defines" | "header" => "Writes a header too, to this file",
+        "table" => "Writes the table of yacc too, to this file",
+        "report" => "Writes the report on states too",
+        "r" => "Writes the report too",
+        "report-file" => "The file of the report",
+        _ => "Nothing: all is said that is wrong",
+    }
 }
 
-/// An option whose value may follow an equals sign, or be left out.
-fn may_have<'a>(alloc: Global, name: &'a str, shown: &'a str, help: &'a str) -> Arg<'a> {
-    let arg = Arg::new(alloc, name).long(name).value_name(shown);
-    let arg = arg.num_args(0..=1).require_equals(true);
-    arg.default_missing_value("")
-        .action(ArgAction::Set)
-        .help(help)
-}
-
-/// A flag that has no long name.
-fn short<'a>(alloc: Global, (name, letter): (&'a str, char), help: &'a str) -> Arg<'a> {
-    let arg = Arg::new(alloc, name).short(letter);
-    arg.action(ArgAction::SetTrue).help(help)
-}
-
-/// The flags that say what is written.
-fn with_flags<'a>(alloc: Global, command: Command<'a>) -> Made<Command<'a>> {
-    let yacc = "The files have the names that yacc gives them";
-    command
-        .arg(short(alloc, ("d", 'd'), "Writes a header too"))?
-        .arg(flag(alloc, "no-lines", "Writes no #line").short('l'))?
-        .arg(flag(alloc, "debug", "The parser can trace its steps").short('t'))?
-        .arg(flag(alloc, "verbose", "Writes the report on states too").short('v'))?
-        .arg(flag(alloc, "yacc", yacc).short('y'))
-}
-
-/// The flags that say what the parser is.
-fn with_kinds<'a>(alloc: Global, command: Command<'a>) -> Made<Command<'a>> {
-    let pure = "The parser has no variables that its calls share";
-    let bison = "Order and names of bison, also where no directive asks for them";
-    let lists = "Errors list the tokens that bison would list";
-    command
-        .arg(short(alloc, ("P", 'P'), pure))?
-        .arg(flag(alloc, "locations", "Symbols have places").short('L'))?
-        .arg(flag(alloc, "bison", bison))?
-        .arg(flag(alloc, "bison-lists", lists))
-}
-
-/// The options with values.
-fn with_options<'a>(alloc: Global, command: Command<'a>) -> Made<Command<'a>> {
-    let prefix = "What the names of the files begin with";
-    let names = "What names in C begin with, yy unless given";
-    let messages = Arg::new(alloc, "messages")
-        .long("messages")
-        .value_name("FILE");
-    let spoken = "The parser says the messages of this file for its errors";
-    let defines = option(
-        alloc,
-        'D',
-        ("define", "NAME=VALUE"),
-        "Sets a variable of %define",
-    );
-    command
-        .arg(option(alloc, 'b', ("file-prefix", "PREFIX"), prefix).long("file-prefix"))?
-        .arg(option(alloc, 'o', ("output", "FILE"), "The file of the parser").long("output"))?
-        .arg(option(alloc, 'p', ("name-prefix", "PREFIX"), names).long("name-prefix"))?
-        .arg(option(alloc, 'H', ("H", "FILE"), "Writes the header to this file"))?
-        .arg(messages.action(ArgAction::Set).help(spoken))?
-        .arg(
-            defines
-                .long("define")
-                .short_alias('F')?
-                .action(ArgAction::Append),
-        )
-}
-
-/// The options whose values may be left out.
-fn with_optional<'a>(alloc: Global, command: Command<'a>) -> Made<Command<'a>> {
-    command
-        .arg(may_have(
-            alloc,
-            "defines",
-            "FILE",
-            "Writes a header too, to this file",
-        ))?
-        .arg(may_have(alloc, "header", "FILE", "Writes a header too, to this file"))?
-        .arg(may_have(
-            alloc,
-            "table",
-            "FILE",
-            "Writes the table of yacc too, to this file",
-        ))?
-        .arg(may_have(alloc, "report", "THINGS", "Writes the report on states too"))?
-        .arg(option(alloc, 'r', ("r", "THINGS"), "Writes the report too"))?
-        .arg(may_have(alloc, "report-file", "FILE", "The file of the report"))?
-        .arg(may_have(
-            alloc,
-            "warnings",
-            "KINDS",
-            "Nothing: all is said that is wrong",
-        ))
+/// What the command line takes for a word.
+fn arg_of<'a>(alloc: Global, (name, letter, has): Word) -> Made<Arg<'a>> {
+    let mut arg = Arg::new(alloc, name).help(help_of(name));
+    if name.len() > 1 {
+        arg = arg.long(name);
+    }
+    if let Some(letter) = letter {
+        arg = arg.short(letter);
+    }
+    match has {
+        Has::Nothing => Ok(arg.action(ArgAction::SetTrue)),
+        Has::Value(shown) => Ok(arg.value_name(shown).action(ArgAction::Set)),
+        Has::Values(shown) => {
+            let arg = arg.value_name(shown).short_alias('F')?;
+            Ok(arg.action(ArgAction::Append))
+        }
+        Has::Perhaps(shown) => {
+            let arg = arg.value_name(shown).num_args(0..=1).require_equals(true);
+            Ok(arg.default_missing_value("").action(ArgAction::Set))
+        }
+    }
 }
 
 /// The command line.
 pub fn command<'a>(alloc: Global) -> Made<Command<'a>> {
+    let mut command = Command::new(alloc, "ycc").about(
+        "Writes a parser in C, whose tables are proved, of a grammar file",
+    );
+    for word in WORDS {
+        command = command.arg(arg_of(alloc, word)?)?;
+    }
     let grammar = Arg::new(alloc, "grammar")
         .required(true)
         .action(ArgAction::Set)
         .help("The grammar file");
-    let command = Command::new(alloc, "ycc").about(
-        "Writes a parser in C, whose tables are proved, of a grammar file",
-    );
-    let command = with_flags(alloc, command)?;
-    let command = with_kinds(alloc, command)?;
-    let command = with_options(alloc, command)?;
-    with_optional(alloc, command)?.arg(grammar)
+    command.arg(grammar)
 }
 
-/// The value of the first of some options that has one that isn't empty.
-fn first_named<'a>(matches: &ArgMatches<'a>, names: [&str; 3]) -> Option<&'a str> {
-    let mut values = names.iter().filter_map(|name| matches.get_str(name));
-    values.find(|value| !value.is_empty())
-}
-
-/// What the words ask for, or `None` where there is no grammar.
+/// What the words ask for, or `None` where there is no grammar. Of the names of the header the
+/// first one counts that isn't empty.
 pub fn given_in<'a>(matches: &ArgMatches<'a>) -> Option<Given<'a>> {
+    let value = |name: &str| matches.get_str(name);
     let is_given = |name: &str| matches.get_str(name) == Some("true");
-    let has = |name: &str| matches.get_str(name).is_some();
+    let mut header = None;
+    let mut define = is_given("d");
+    for name in ["defines", "header", "H"] {
+        if let Some(path) = value(name) {
+            define = true;
+            if !path.is_empty() {
+                header = Some(path);
+            }
+        }
+    }
     Some(Given {
-        grammar: matches.get_str("grammar")?,
-        files: matches.get_str("file-prefix"),
-        parser: matches.get_str("output"),
-        header: first_named(matches, ["H", "header", "defines"]),
-        table: matches.get_str("table"),
-        prefix: matches.get_str("name-prefix"),
-        define: is_given("d") || has("H") || has("header") || has("defines"),
+        grammar: value("grammar")?,
+        files: value("file-prefix"),
+        parser: value("output"),
+        header,
+        table: value("table"),
+        prefix: value("name-prefix"),
+        define,
         no_lines: is_given("no-lines"),
         trace: is_given("debug"),
-        verbose: is_given("verbose") || has("report") || has("r"),
+        verbose: is_given("verbose") || value("report").is_some() || value("r").is_some(),
         yacc: is_given("yacc"),
         bison: is_given("bison"),
         lists: is_given("bison-lists"),
         pure: is_given("P"),
         locations: is_given("locations"),
-        report: matches.get_str("report-file"),
-        messages: matches.get_str("messages"),
+        report: value("report-file"),
+        messages: value("messages"),
     })
 }
 
@@ -212,31 +199,34 @@ pub fn variables_in(alloc: Global, matches: &ArgMatches<'_>) -> Made<Vec<u8>> {
     let mut variables = Vec::new(alloc);
     for variable in matches.get_strs("define").unwrap_or(&[]) {
         variables.extend_from_slice(variable.as_bytes())?;
-        variables.push(0).map_err(AllocError::from)?;
+        variables.push(0)?;
     }
     Ok(variables)
 }
 
-/// Whether a word asks for nothing: one of bison's that chooses warnings or what is drawn of them.
+/// Words of bison that choose warnings or what is drawn of them, by their beginnings.
+const IDLE: [&str; 4] = ["-W", "-f", "--feature", "--color"];
+
+/// Whether a word asks for nothing.
 pub fn is_idle(word: &str) -> bool {
-    let idle = ["-W", "-f", "--feature", "--color"];
-    idle.iter().any(|start| word.starts_with(*start))
+    for start in IDLE {
+        if word.starts_with(start) {
+            return true;
+        }
+    }
+    false
 }
 
-/// Outputs of bison and byacc that `ycc` doesn't have.
-const OTHERS: [&str; 8] = [
-    "-g",
-    "--graph",
-    "-k",
-    "--token-table",
-    "-x",
-    "--xml",
-    "-S",
-    "--skeleton",
-];
+/// Outputs of bison and byacc that `ycc` doesn't have, with a space between two.
+const OTHERS: &str = "-g --graph -k --token-table -x --xml -S --skeleton";
 
 /// Whether a word asks for an output that `ycc` doesn't have.
 pub fn is_other(word: &str) -> bool {
     let name = word.split('=').next().unwrap_or(word);
-    OTHERS.iter().any(|other| *other == name)
+    for other in OTHERS.split(' ') {
+        if name == other {
+            return true;
+        }
+    }
+    false
 }

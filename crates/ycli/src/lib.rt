@@ -2,6 +2,5 @@
 //! words of the programs stand here too.
 #![tactic(auto)]
 
-pub use ygenerate::{generate, generator, source};
+pub use ygenerate::{arguments, generate, generator, source};
 pub use ystepper::{fault, programs, run, stepper};
-pub use ywords::arguments;

@@ -6,9 +6,9 @@ use testkit::devices::{Refusal, Sink};
 use testkit::worked::ONE;
 use ycli::generator::yacc_in;
 use ycli::programs::ystep_in;
+use yfolder::{Text, Texts};
 use ysymbols::let_go;
 use ytables::Link;
-use ytexts::{Text, Texts};
 
 /// How a run ended: its status, what it wrote, and its messages.
 struct Ran {

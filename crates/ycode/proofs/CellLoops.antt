@@ -1,18 +1,27 @@
 -- The cells of one more state.
-use Rattle.std.proofs.Common.{ℕ, ◌≡◌, ◌+◌, ◌*◌, ◌<◌, ◌⊎◌, inl, inr, Bool, true, false}
+use Rattle.std.proofs.Common.{ℕ, ◌≡◌, ◌+◌, ◌*◌, ◌/◌, ◌<◌, ◌⊎◌, inl, inr, Bool, true, false}
 use Rattle.std.proofs.Common.{List, [], ◌∷◌, ◌++◌, length, get_or, sym, ap, ◌∙◌, subst}
 use Rattle.std.proofs.Common.{arith, Some, None, is_some, slice_index, length-append, replicate}
+use Rattle.std.proofs.Common.{if◌then◌else◌, ◌≤◌, Option, refl}
+use Rattle.std.proofs.lemmas.Bool.{cases_order}
+use Rattle.ycode.specs.Combs.{AreAtMost}
 use Rattle.std.proofs.Math.Seq.{get_or-append_seam}
 use Rattle.std.proofs.lemmas.List.{get_or_append_left, get_or-replicate, get_or_past}
+use Rattle.std.specs.List.{fold, range_with_len}
+use Rattle.std.proofs.lemmas.List.FromFn.{fill_by_all}
+use Rattle.std.proofs.lemmas.List.Sums.{fold_push}
 use Rattle.ylalr.specs.Collection.{goto_in}
 use Rattle.ytables.specs.Cell.{is_reduce}
 use Rattle.ytables.specs.Tables.{TablesValue, action_at, default_at}
 use Rattle.ycode.specs.declared.entry.Entry.{Entry}
-use Rattle.ycode.specs.Bits.{SetsValue, HasSet, KeepsSets}
+use Rattle.ycode.specs.Bits.{SetsValue, HasSet, KeepsSets, AreListed, bytes_for}
+use Rattle.ycode.specs.Bits.{with_set, number_of}
 use Rattle.ycode.specs.Cells.{states_of, tokens_of, rules_of, wanted_at, IsUsual, IsSetOf, AreCells}
-use Rattle.ycode.specs.Cells.{AreSets}
-use Rattle.ycode.specs.Entries.{entry_at, EntriesAtMost}
-use Rattle.ycode.specs.Targets.{AreTargets, beside}
+use Rattle.ycode.specs.Cells.{AreSets, sets_to, with_set_in, first_set, set_number, members_in}
+use Rattle.ycode.specs.Cells.{set_in, span_of, usual_rule}
+use Rattle.ycode.specs.Entries.{entry_at, entries_for, EntriesAtMost}
+use Rattle.ycode.specs.Targets.{AreTargets, beside, goto_entries}
+use Rattle.ycode.proofs.ListSteps.{range_more}
 use Rattle.ycode.proofs.EntrySteps.{same_yes, same_no, below_or_last}
 use Rattle.ycode.proofs.BitSteps.{kept_set}
 use Rattle.ycode.proofs.CellSteps.{consistent}
@@ -59,13 +68,86 @@ set_other v q r n old sets members a k e p h len same = record {
     low : (t : ℕ) → t < tokens_of v + 1 → t < 8 * sets.span
     low t l = let w = a.span in let x = k.span in omega (arith, w, x, l)
 
+-- no rule where there is none
+pub no_rule : (o : Option ℕ) → is_some o ≡ false → o ≡ None
+no_rule None e = refl
+no_rule (Some r) e = absurd (cc)
+
+-- one more number that is at most m
+pub at_most_push : (m : ℕ) (xs : List ℕ) (n : ℕ) → AreAtMost m xs → n ≤ m →
+    AreAtMost m (xs ++ n ∷ [])
+at_most_push m xs n a l i = go (cases_order i (length xs))
+  where
+    go : (i ≡ length xs) ⊎ ((i < length xs) ⊎ (length xs < i)) → slice_index (xs ++ n ∷ []) i ≤ m
+    go (inl e) = let h = last xs n 0 (length xs) i refl e in omega (arith, h, l)
+    go (inr (inl k)) = let h = before xs n 0 (length xs) i refl k in let z = a i in
+        omega (arith, h, z)
+    go (inr (inr k)) = let h = get_or_past (xs ++ n ∷ []) i 0
+        (let y = longer xs n (length xs) refl in omega (arith, y, k)) in omega (arith, h)
+
+-- the sets with that of a consistent state, and its number
+pub consistent_same : (v : TablesValue) (q : ℕ) (s : SetsValue) → is_some (default_at v q) ≡ true →
+    s ≡ with_set_in v s q
+consistent_same v q s e = sym (ap (λ (b : Bool). if b then s else with_set s (set_in v q)) e)
+
+pub consistent_zero : (v : TablesValue) (q : ℕ) (s : SetsValue) → is_some (default_at v q) ≡ true →
+    0 ≡ set_number v s q
+consistent_zero v q s e = sym (ap (λ (b : Bool). if b then 0 else number_of s (set_in v q)) e)
+
+-- the bytes of the set of another, and the sets with it
+module _ (v : TablesValue) (q r : ℕ) (s : SetsValue) (members : List Bool) (a : AreSets v q s)
+    (u : IsUsual v q r) (len : length members ≡ tokens_of v) (each : (t : ℕ) → t < tokens_of v →
+    get_or members t false ≡ is_reduce r (action_at v q t)) (e : is_some (default_at v q) ≡ false)
+  where
+    set_is : bytes_for s.span members ≡ set_in v q
+    set_is = ap (λ (k : ℕ). bytes_for k members) a.span ∙ ap (bytes_for (span_of v))
+        (fill_by_all (λ t. is_reduce (usual_rule v q) (action_at v q t)) members (tokens_of v) false
+        len (λ t l. each t l ∙ ap (λ (x : ℕ). is_reduce x (action_at v q t)) u.is))
+
+    pub other_same : (t : SetsValue) → t ≡ with_set s (bytes_for s.span members) →
+        t ≡ with_set_in v s q
+    other_same t h = h ∙ (ap (with_set s) set_is ∙
+        sym (ap (λ (b : Bool). if b then s else with_set s (set_in v q)) e))
+
+    pub other_number : (t : SetsValue) (n : ℕ) → n ≡ number_of t (bytes_for s.span members) →
+        n ≡ set_number v t q
+    other_number t n h = h ∙ (ap (number_of t) set_is ∙
+        sym (ap (λ (b : Bool). if b then 0 else number_of t (set_in v q)) e))
+
+-- set 0 alone
+pub sets_none : (v : TablesValue) (s : SetsValue) (n : ℕ) → n ≡ tokens_of v + 1 → s.count ≡ 1 →
+    s.span ≡ (n + 7) / 8 → s.bytes ≡ bytes_for ((n + 7) / 8) (replicate n true) → s.others ≡ [] →
+    HasSet s 0 (replicate n true) → AreSets v 0 s
+sets_none v s n e c w b o h = record {
+  span = span;
+  all = subst (λ (k : ℕ). HasSet s 0 (replicate k true)) e h;
+  few = omega (arith, c);
+  listed = record {
+    count = let z = ap length o in omega (arith, c, z);
+    bits = λ k t l. absurd (let z = ap length o in omega (arith, z, l));
+  };
+  are = λ i. record { span = span i; count = c i; bytes = bytes i; others = o i };
+}
+  where
+    span : s.span ≡ span_of v
+    span = w ∙ ap (λ (k : ℕ). (k + 7) / 8) e
+
+    bytes : s.bytes ≡ bytes_for (span_of v) (replicate (tokens_of v + 1) true)
+    bytes = b ∙ ap (λ (k : ℕ). bytes_for ((k + 7) / 8) (replicate k true)) e
+
+sets_to_more : (v : TablesValue) (q : ℕ) → sets_to v (q + 1) ≡ with_set_in v (sets_to v q) q
+sets_to_more v q = ap (fold (with_set_in v) (first_set v)) (range_more q) ∙
+    fold_push (with_set_in v) (first_set v) (range_with_len 0 q) q
+
 -- the sets with one more
 pub sets_more : (v : TablesValue) (q : ℕ) (s t : SetsValue) → AreSets v q s → KeepsSets s t →
-    AreSets v (q + 1) t
-sets_more v q s t a k = record {
+    AreListed t → t ≡ with_set_in v s q → AreSets v (q + 1) t
+sets_more v q s t a k l e = record {
   span = k.span ∙ a.span;
   all = kept_set s t 0 (replicate (tokens_of v + 1) true) k a.all;
   few = let x = a.few in let y = k.longer in omega (arith, x, y);
+  listed = l;
+  are = e ∙ (ap (λ (x : SetsValue). with_set_in v x q) a.are ∙ sym (sets_to_more v q));
 }
 
 kept_set_of : (v : TablesValue) (q n r m : ℕ) (s t : SetsValue) → AreSets v n s → KeepsSets s t →
@@ -85,16 +167,35 @@ pub cells_more : (v : TablesValue) (n : ℕ) (usual sets : List ℕ) (s t : Sets
     AreSets v n s → KeepsSets s t → IsUsual v n r → IsSetOf v n r t m →
     ((i : ℕ) → i < tokens_of v → entry_at es i ≡ wanted_at v r n i) →
     entry_at es (tokens_of v) ≡ None → EntriesAtMost (states_of v + rules_of v) es →
+    m ≡ set_number v (sets_to v (n + 1)) n → es ≡ entries_for (wanted_at v r n) (tokens_of v) →
     AreCells v (n + 1) (usual ++ r ∷ []) (sets ++ m ∷ []) t (rows ++ es ∷ [])
-cells_more v n usual sets s t rows r m es c a k u so en nothing mo = record {
+cells_more v n usual sets s t rows r m es c a k u so en nothing mo nu li = record {
   counts = (longer usual r n c.counts.0, longer sets m n c.counts.1, longer rows es n c.counts.2);
   rules = λ q l. rules q (below_or_last q n l);
   members = λ q l. members q (below_or_last q n l);
   entries = λ q i l h. entries q i h (below_or_last q n l);
   none = λ q l. none q (below_or_last q n l);
   most = λ q l. most q (below_or_last q n l);
+  numbers = λ q l. numbers q (below_or_last q n l);
+  lists = λ q l. lists q (below_or_last q n l);
 }
   where
+    numbers : (q : ℕ) → (q < n) ⊎ (q ≡ n) →
+        slice_index (sets ++ m ∷ []) q ≡ set_number v (sets_to v (q + 1)) q
+    numbers q (inl l) = before sets m 0 n q c.counts.1 l ∙ c.numbers q l
+    numbers q (inr e) = last sets m 0 n q c.counts.1 e ∙ (nu ∙
+        ap (λ (x : ℕ). set_number v (sets_to v (x + 1)) x) (sym e))
+
+    lists : (q : ℕ) → (q < n) ⊎ (q ≡ n) → get_or (rows ++ es ∷ []) q [] ≡
+        entries_for (wanted_at v (slice_index (usual ++ r ∷ []) q) q) (tokens_of v)
+    lists q (inl l) = before rows es [] n q c.counts.2 l ∙ (c.lists q l ∙
+        ap (λ (x : ℕ). entries_for (wanted_at v x q) (tokens_of v))
+        (sym (before usual r 0 n q c.counts.0 l)))
+    lists q (inr e) = last rows es [] n q c.counts.2 e ∙ (li ∙
+        (ap (λ (x : ℕ). entries_for (wanted_at v r x) (tokens_of v)) (sym e) ∙
+        ap (λ (x : ℕ). entries_for (wanted_at v x q) (tokens_of v))
+        (sym (last usual r 0 n q c.counts.0 e))))
+
     none : (q : ℕ) → (q < n) ⊎ (q ≡ n) → entry_at (get_or (rows ++ es ∷ []) q []) (tokens_of v) ≡
         None
     none q (inl l) = ap (λ x. entry_at x (tokens_of v)) (before rows es [] n q c.counts.2 l) ∙
@@ -142,15 +243,23 @@ pub targets_more : (v : TablesValue) (n : ℕ) (usual : List ℕ) (rows : List (
     (es : List Entry) → AreTargets v n usual rows →
     ((x : ℕ) → x < length usual →
     entry_at es x ≡ beside (slice_index usual x) (goto_in v.built n (tokens_of v + x))) →
-    EntriesAtMost (states_of v) es → AreTargets v (n + 1) usual (rows ++ es ∷ [])
-targets_more v n usual rows es c en mo = record {
+    EntriesAtMost (states_of v) es → es ≡ goto_entries v usual n →
+    AreTargets v (n + 1) usual (rows ++ es ∷ [])
+targets_more v n usual rows es c en mo li = record {
   count = c.count;
   states = longer rows es n c.states;
   below = c.below;
   entries = λ q x l h. entries q x h (below_or_last q n l);
   most = λ q l. most q (below_or_last q n l);
+  lists = λ q l. lists q (below_or_last q n l);
+  targets = c.targets;
 }
   where
+    lists : (q : ℕ) → (q < n) ⊎ (q ≡ n) →
+        get_or (rows ++ es ∷ []) q [] ≡ goto_entries v usual q
+    lists q (inl l) = before rows es [] n q c.states l ∙ c.lists q l
+    lists q (inr e) = last rows es [] n q c.states e ∙ (li ∙ ap (goto_entries v usual) (sym e))
+
     entries : (q x : ℕ) → x < length usual → (q < n) ⊎ (q ≡ n) →
         entry_at (get_or (rows ++ es ∷ []) q []) x ≡
         beside (slice_index usual x) (goto_in v.built q (tokens_of v + x))

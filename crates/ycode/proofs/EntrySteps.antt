@@ -3,9 +3,14 @@ use Rattle.std.proofs.Common.{ℕ, ◌≡◌, ◌≢◌, ◌+◌, ◌<◌, ◌�
 use Rattle.std.proofs.Common.{nat_eq, List, [], ◌∷◌, ◌++◌}
 use Rattle.std.proofs.Common.{refl, sym, ap, ◌∙◌, Option, Some, None, if◌then◌else◌}
 use Rattle.std.proofs.lemmas.Bool.{cases_eq}
+use Rattle.std.proofs.lemmas.List.{append-nil}
+use Rattle.std.proofs.lemmas.List.Concat.{flat_map-append}
 use Rattle.std.proofs.lemmas.Bool.Decides.{eqb_tells}
+use Rattle.std.specs.List.{flat_map, range_with_len}
 use Rattle.ycode.specs.declared.entry.Entry.{Entry}
-use Rattle.ycode.specs.Entries.{or_else, number_at, entry_at, Adds, EntriesAtMost}
+use Rattle.ycode.proofs.ListSteps.{range_more}
+use Rattle.ycode.specs.Entries.{or_else, number_at, entry_at, entry_for, entries_for, Adds}
+use Rattle.ycode.specs.Entries.{EntriesAtMost}
 
 pub same_yes : (a b : ℕ) → a ≡ b → nat_eq a b ≡ true
 same_yes a b e = go (eqb_tells a b)
@@ -66,6 +71,7 @@ pub adds_number : (old new : List Entry) (column number : ℕ) →
     new ≡ old ++ record { column = column; number = number } ∷ [] →
     Adds column (Some number) old new
 adds_number old new column number e = record {
+  is = e;
   here = ap (λ l. entry_at l column) e ∙ last_here old (record { column = column; number = number })
       column refl;
   other = λ t n. ap (λ l. entry_at l t) e ∙
@@ -73,7 +79,21 @@ adds_number old new column number e = record {
 }
 
 pub adds_none : (old : List Entry) (column : ℕ) → Adds column None old old
-adds_none old column = record { here = refl; other = λ t n. refl }
+adds_none old column = record {
+  is = sym (append-nil old);
+  here = refl;
+  other = λ t n. refl;
+}
+
+-- the entries with that of one more column
+pub entries_for_more : (f : ℕ → Option ℕ) (old new : List Entry) (t : ℕ) (number : Option ℕ) →
+    Adds t number old new → number ≡ f t → old ≡ entries_for f t → new ≡ entries_for f (t + 1)
+entries_for_more f old new t number a e i = a.is ∙
+    (ap (λ (l : List Entry). l ++ entry_for t number) i ∙
+    (ap (λ (o : Option ℕ). entries_for f t ++ entry_for t o) e ∙
+    (ap (λ (l : List Entry). entries_for f t ++ l) (sym (append-nil (entry_for t (f t)))) ∙
+    (sym (flat_map-append (λ (s : ℕ). entry_for s (f s)) (range_with_len 0 t) (t ∷ [])) ∙
+    ap (flat_map (λ (s : ℕ). entry_for s (f s))) (sym (range_more t))))))
 
 module _ (old new : List Entry) (t : ℕ) (number : Option ℕ) (a : Adds t number old new)
     (rest : (s : ℕ) → t ≤ s → entry_at old s ≡ None) where

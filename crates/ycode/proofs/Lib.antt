@@ -1,8 +1,16 @@
+pub mod ListSteps
 pub mod EntrySteps
 pub mod PackingSteps
+pub mod PlaceSteps
 pub mod BitSteps
+pub mod SlotSteps
+pub mod FinderSteps
+pub mod LayoutSteps
+pub mod UsualSteps
 pub mod CellSteps
 pub mod CellLoops
 pub mod ReadSteps
 pub mod SymbolSteps
 pub mod CodeSteps
+pub mod TranslationSteps
+pub mod WholeSteps

@@ -2,9 +2,12 @@
 use Rattle.std.proofs.Common.{ℕ, ◌≡◌, ◌≢◌, ◌+◌, ◌-◌, ◌*◌, ◌<◌, ◌≤◌, ◌⊎◌, inl, inr, Bool, true}
 use Rattle.std.proofs.Common.{false}
 use Rattle.std.proofs.Common.{nat_eq, List, [], ◌∷◌, ◌++◌, length, get_or, set, refl, sym, ap, ◌∙◌}
-use Rattle.std.proofs.Common.{subst, arith}
-use Rattle.std.proofs.Common.{Option, Some, None, slice_index, if◌then◌else◌}
-use Rattle.std.proofs.lemmas.Bool.{cases_eq}
+use Rattle.std.proofs.Common.{subst, arith, max, map, ◌||◌}
+use Rattle.std.proofs.Common.{Option, Some, None, is_some, unwrap_or, slice_index, if◌then◌else◌}
+use Rattle.std.specs.List.{range_with_len}
+use Rattle.std.proofs.lemmas.Bool.{cases_eq, le-leb, lt-leb, eq-eqb, ne_eqb}
+use Rattle.std.proofs.lemmas.List.{get_or_default}
+use Rattle.std.proofs.lemmas.List.FromFn.{fill_by_all}
 use Rattle.std.proofs.lemmas.List.{get_or-set_same, get_or-set_other, get_or_past}
 use Rattle.std.proofs.lemmas.List.{get_or_append_left}
 use Rattle.std.proofs.Math.Seq.{get_or-append_seam}
@@ -13,7 +16,7 @@ use Rattle.ycode.specs.declared.entry.Entry.{Entry}
 use Rattle.ycode.specs.Combs.{held_at, AreAtMost, HasRows}
 use Rattle.ycode.specs.Entries.{entry_at}
 use Rattle.ycode.specs.Packing.{PackingValue, Begins, IsPacking, HasRow, Keeps, RowAtMost, FitsAt}
-use Rattle.ycode.specs.Packing.{HaveEntries}
+use Rattle.ycode.specs.Packing.{HaveEntries, number_there, with_row}
 use Rattle.ycode.specs.Packing.{IsGrown, IsWritten, HasEntries, IsPut, IsEntered}
 use Rattle.ycode.proofs.EntrySteps.{same_yes, same_no, below_or_last}
 
@@ -202,6 +205,105 @@ module _ (w : ℕ) (c c1 c2 v v1 v2 : List ℕ) (b b1 b2 : List Bool) (d : ℕ) 
       go : At i → slice_index v2 i ≤ m
       go (inl u) = let e = g.numbers i in let l = a i in omega (arith, e, l, u.1)
       go (inr (s, n, e, k, rs, cs, vs)) = let l = r s n rs in omega (arith, l, vs)
+
+  -- what place i has of the row, and what stands there then
+  abbrev Place : ℕ → Type 0
+  Place i = ((number_there row d i ≡ None) × (slice_index c2 i ≡ slice_index c1 i) ×
+      (slice_index v2 i ≡ slice_index v1 i)) ⊎
+      ((s : ℕ) × (n : ℕ) × (i ≡ d + s) × (number_there row d i ≡ Some n) ×
+      (slice_index c2 i ≡ s) × (slice_index v2 i ≡ n))
+
+  place_at : (i : ℕ) → Place i
+  place_at i = go (less_or_not i d)
+    where
+      behind : d ≤ i → (get_or row (i - d) None ≡ None) ⊎
+          ((n : ℕ) × (get_or row (i - d) None ≡ Some n)) → Place i
+      behind l (inl e) =
+          let at : d + (i - d) ≡ i = omega (arith, l) in
+          let same = wr.none (i - d) e in
+          inl (
+            ap (λ (b : Bool). if b then get_or row (i - d) None else None) (le-leb d i l) ∙ e,
+            subst (λ (x : ℕ). slice_index c2 x ≡ slice_index c1 x) at same.0,
+            subst (λ (x : ℕ). slice_index v2 x ≡ slice_index v1 x) at same.1,
+          )
+      behind l (inr (n, e)) =
+          let at : d + (i - d) ≡ i = omega (arith, l) in
+          let there = wr.there (i - d) n (inside (i - d) n e) e in
+          inr (
+            i - d,
+            n,
+            sym at,
+            ap (λ (b : Bool). if b then get_or row (i - d) None else None) (le-leb d i l) ∙ e,
+            subst (λ (x : ℕ). slice_index c2 x ≡ i - d) at there.0,
+            subst (λ (x : ℕ). slice_index v2 x ≡ n) at there.1,
+          )
+
+      go : (i < d) ⊎ (d ≤ i) → Place i
+      go (inl l) = let same = wr.before i l in
+          inl (
+            ap (λ (b : Bool). if b then get_or row (i - d) None else None) (lt-leb d i l),
+            same.0,
+            same.1,
+          )
+      go (inr l) = behind l (some_or_none (get_or row (i - d) None))
+
+  -- the cells are those with the row
+  pub exact : length c1 ≡ max (length c) (d + length row) → length v2 ≡ length c2 →
+      length b2 ≡ length c2 →
+      record { width = w; checks = c2; values = v2; begun = b2 } ≡
+      with_row (record { width = w; checks = c; values = v; begun = b }) row d
+  exact lm le lb = λ k. record {
+    width = w;
+    checks = checks k;
+    values = values k;
+    begun = begun k;
+  }
+    where
+      first : (i : ℕ) → i < length c1 → slice_index c1 i ≡ get_or c i w
+      first i l = go (less_or_not i (length c))
+        where
+          go : (i < length c) ⊎ (length c ≤ i) → slice_index c1 i ≡ get_or c i w
+          go (inl m) = g.cells i m ∙ get_or_default c i 0 w m
+          go (inr m) = g.free i m l ∙ sym (get_or_past c i w m)
+
+      check : (i : ℕ) → i < length c1 → Place i → slice_index c2 i ≡
+          (if is_some (number_there row d i) then i - d else get_or c i w)
+      check i l (inl u) = u.1 ∙ (first i l ∙
+          ap (λ (o : Option ℕ). if is_some o then i - d else get_or c i w) (sym u.0))
+      check i l (inr (s, n, e, there, cs, vs)) =
+          let z : slice_index c2 i ≡ i - d = omega (arith, cs, e) in
+          z ∙ ap (λ (o : Option ℕ). if is_some o then i - d else get_or c i w) (sym there)
+
+      checks : c2 ≡ map (λ i. if is_some (number_there row d i) then i - d else get_or c i w)
+          (range_with_len 0 (max (length c) (d + length row)))
+      checks = fill_by_all (λ i. if is_some (number_there row d i) then i - d else get_or c i w) c2
+          (max (length c) (d + length row)) 0 (lc ∙ lm)
+          (λ i l. check i (omega (arith, l, lm)) (place_at i))
+
+      value : (i : ℕ) → Place i → slice_index v2 i ≡
+          unwrap_or (number_there row d i) (slice_index v i)
+      value i (inl u) = u.2 ∙ (g.numbers i ∙
+          ap (λ (o : Option ℕ). unwrap_or o (slice_index v i)) (sym u.0))
+      value i (inr (s, n, e, there, cs, vs)) = vs ∙
+          ap (λ (o : Option ℕ). unwrap_or o (slice_index v i)) (sym there)
+
+      values : v2 ≡ map (λ i. unwrap_or (number_there row d i) (slice_index v i))
+          (range_with_len 0 (max (length c) (d + length row)))
+      values = fill_by_all (λ i. unwrap_or (number_there row d i) (slice_index v i)) v2
+          (max (length c) (d + length row)) 0 (le ∙ (lc ∙ lm)) (λ i l. value i (place_at i))
+
+      start : (i : ℕ) → (i ≡ d) ⊎ (i ≢ d) → get_or b2 i false ≡ (nat_eq i d || get_or b i false)
+      start i (inl e) = ap (λ (x : ℕ). get_or b2 x false) e ∙ (begins_here ∙
+          sym (ap (λ (t : Bool). t || get_or b i false) (eq-eqb i d e)))
+      start i (inr n) = ap (λ (l : List Bool). get_or l i false) eb ∙
+          (get_or-set_other b1 d i true false n ∙ (g.begins i ∙
+          sym (ap (λ (t : Bool). t || get_or b i false) (ne_eqb i d n))))
+
+      begun : b2 ≡ map (λ i. nat_eq i d || get_or b i false)
+          (range_with_len 0 (max (length c) (d + length row)))
+      begun = fill_by_all (λ i. nat_eq i d || get_or b i false) b2
+          (max (length c) (d + length row)) false (lb ∙ (lc ∙ lm))
+          (λ i l. start i (cases_eq i d))
 
   pub written : length c1 ≤ length c + w → (length v ≡ length c → length v2 ≡ length c2) →
       IsPut (record { width = w; checks = c; values = v; begun = b })

@@ -1,26 +1,30 @@
 -- What is read of the arrays.
 use Rattle.std.proofs.Common.{ℕ, ◌≡◌, ◌+◌, ◌*◌, ◌/◌, ◌<◌, ◌≤◌, ◌^◌, ◌⊎◌, inl, inr}
 use Rattle.std.proofs.Common.{nat_eq, List, [], length, get_or, sym, ap, ◌∙◌, subst, arith}
-use Rattle.std.proofs.Common.{Some, None, is_some, slice_index, if◌then◌else◌, unwrap_or}
+use Rattle.std.proofs.Common.{Option, Some, None, is_some, slice_index, if◌then◌else◌, unwrap_or}
 use Rattle.std.proofs.Math.Nat.{mul-le-mul}
 use Rattle.std.proofs.lemmas.List.{get_or_past}
+use Rattle.std.proofs.lemmas.List.FromFn.{length-map-range_with_len, get_or-map-range_with_len}
 use Rattle.ysymbols.specs.Grammar.{most_symbols}
 use Rattle.yrows.specs.Limits.{most_states}
 use Rattle.ylalr.specs.Collection.{goto_in}
-use Rattle.ytables.specs.declared.cell.Action.TheVariants.{Reduce, Error}
+use Rattle.ytables.specs.declared.cell.Action.{Action}
+use Rattle.ytables.specs.declared.cell.Action.TheVariants.{Shift, Reduce, Accept, Error}
 use Rattle.ytables.specs.Tables.{TablesValue, action_at, default_at}
-use Rattle.ycells.specs.Candidates.{shift_in}
+use Rattle.yreasons.specs.Candidates.{shift_in}
 use Rattle.ycode.specs.declared.comb.Comb.{Comb}
 use Rattle.ycode.specs.declared.entry.Entry.{Entry}
 use Rattle.ycode.specs.declared.sizes.Sizes.{Sizes}
 use Rattle.ycode.specs.Bits.{bit_of, SetsValue, IsSets}
 use Rattle.ycode.specs.Cells.{states_of, tokens_of, symbols_of, rules_of, wanted_at, is_refused}
-use Rattle.ycode.specs.Cells.{AreSizes, AreCells, AreSets, Fits, IsUsual}
+use Rattle.ycode.specs.Cells.{AreSizes, AreCells, AreSets, Fits, IsUsual, reductions_in, rule_in}
+use Rattle.ycode.specs.Usual.{most_usual}
 use Rattle.ycode.specs.Combs.{held, place_of, HasRows, AreAtMost}
 use Rattle.ycode.specs.Entries.{NumbersAtMost, EntriesAtMost}
 use Rattle.ycode.specs.Reading.{done_by, is_explicit}
-use Rattle.ycode.specs.Targets.{AreTargets}
+use Rattle.ycode.specs.Targets.{AreTargets, gotos_over}
 use Rattle.ycode.proofs.BitSteps.{byte_within}
+use Rattle.ycode.proofs.PackingSteps.{less_or_not}
 use Rattle.ycode.proofs.CellSteps.{done_right, refusal_right, default_right, goto_right, consistent}
 
 module _ (v : TablesValue) (z : Sizes) (a : AreSizes v z) where
@@ -180,10 +184,51 @@ module _ (v : TablesValue) (z : Sizes) (a : AreSizes v z) (q r : ℕ) where
     rule = (subst (Fits (states_of v) (rules_of v)) (consistent v q 0 r e) (a.actions q 0 l
         (let p = a.some_tokens in let t = a.tokens in omega (arith, p, t)))).1;
     default = λ s f. (let g : Some r ≡ Some s = sym e ∙ f in cc);
+    is = ap (λ (o : Option ℕ). unwrap_or o (most_usual (reductions_in v q))) (sym e);
   }
 
-  pub usual_other : r < rules_of v → default_at v q ≡ None → IsUsual v q r
-  usual_other l e = record {
+  pub usual_other : r < rules_of v → default_at v q ≡ None →
+      r ≡ most_usual (reductions_in v q) → IsUsual v q r
+  usual_other l e m = record {
     rule = l;
     default = λ s f. (let g : None ≡ Some s = sym e ∙ f in cc);
+    is = m ∙ ap (λ (o : Option ℕ). unwrap_or o (most_usual (reductions_in v q))) (sym e);
   }
+
+  -- what its cells reduce by are rules
+  pub reduction_below : q < states_of v → (t n : ℕ) →
+      get_or (reductions_in v q) t None ≡ Some n → n < rules_of v
+  reduction_below l t n e = go (less_or_not t (tokens_of v))
+    where
+      len : length (reductions_in v q) ≡ tokens_of v
+      len = length-map-range_with_len (λ (x : ℕ). rule_in (action_at v q x)) 0 (tokens_of v)
+
+      reduced : (x : Action) → Fits (states_of v) (rules_of v) x → rule_in x ≡ Some n →
+          n < rules_of v
+      reduced (Shift k) f h = cc
+      reduced (Reduce k) f h = let z : k ≡ n = cc in let m = f.1 in omega (arith, z, m)
+      reduced Accept f h = cc
+      reduced Error f h = cc
+
+      go : (t < tokens_of v) ⊎ (tokens_of v ≤ t) → n < rules_of v
+      go (inl m) = reduced (action_at v q t) (a.actions q t l m)
+          (sym (get_or-map-range_with_len (λ (x : ℕ). rule_in (action_at v q x)) 0 (tokens_of v) t t
+          None m (omega arith)) ∙ e)
+      go (inr m) = let f : None ≡ Some n = sym (get_or_past (reductions_in v q) t None
+          (omega (arith, len, m))) ∙ e in absurd (cc)
+
+-- the states to which gotos lead
+pub goto_state_below : (v : TablesValue) (z : Sizes) → AreSizes v z → (x : ℕ) →
+    tokens_of v + x < symbols_of v → (q n : ℕ) → get_or (gotos_over v x) q None ≡ Some n →
+    n < states_of v
+goto_state_below v z a x m q n e = go (less_or_not q (states_of v))
+  where
+    len : length (gotos_over v x) ≡ states_of v
+    len = length-map-range_with_len (λ (k : ℕ). goto_in v.built k (tokens_of v + x)) 0 (states_of v)
+
+    go : (q < states_of v) ⊎ (states_of v ≤ q) → n < states_of v
+    go (inl l) = a.gotos q (tokens_of v + x) n l m
+        (sym (get_or-map-range_with_len (λ (k : ℕ). goto_in v.built k (tokens_of v + x)) 0
+        (states_of v) q q None l (omega arith)) ∙ e)
+    go (inr l) = let f : None ≡ Some n = sym (get_or_past (gotos_over v x) q None
+        (omega (arith, len, l))) ∙ e in absurd (cc)

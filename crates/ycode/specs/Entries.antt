@@ -1,6 +1,7 @@
 -- Rows as lists of the numbers that stand in them.
 use Rattle.std.specs.Prelude.{ℕ, ◌≡◌, ◌≢◌, ◌≤◌, List, [], ◌∷◌, Option, Some, None, if◌then◌else◌}
-use Rattle.std.specs.Prelude.{nat_eq, slice_index_or}
+use Rattle.std.specs.Prelude.{◌++◌, nat_eq, slice_index_or}
+use Rattle.std.specs.List.{flat_map, range_with_len}
 use Rattle.ycode.specs.declared.entry.Entry.{Entry}
 
 -- the first number, or else the second
@@ -17,8 +18,18 @@ abbrev pub entry_at : List Entry → ℕ → Option ℕ
 entry_at [] t = None
 entry_at (e ∷ entries) t = or_else (entry_at entries t) (number_at e t)
 
+-- the entry of a number at a column, where it is one
+abbrev pub entry_for : ℕ → Option ℕ → List Entry
+entry_for column None = []
+entry_for column (Some n) = record { column = column; number = n } ∷ []
+
+-- the entries of the numbers at the columns below n, in their order
+abbrev pub entries_for : (ℕ → Option ℕ) → ℕ → List Entry
+entries_for number n = flat_map (λ t. entry_for t (number t)) (range_with_len 0 n)
+
 -- the entries have this number at the column, where it is one, and what they had at others
 pub record Adds (column : ℕ) (number : Option ℕ) (old new : List Entry) : Type 0 where
+  pub is : new ≡ old ++ entry_for column number
   pub here : entry_at new column ≡ or_else number (entry_at old column)
   pub other : (t : ℕ) → t ≢ column → entry_at new t ≡ entry_at old t
 

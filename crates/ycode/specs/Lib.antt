@@ -2,9 +2,14 @@ pub mod Bits
 pub mod Cells
 pub mod Combs
 pub mod Entries
+pub mod Finder
+pub mod Layout
 pub mod Packing
 pub mod Reading
 pub mod Reads
+pub mod Slots
 pub mod Symbols
 pub mod Targets
 pub mod Translation
+pub mod Usual
+pub mod Whole

@@ -1,7 +1,9 @@
 -- Rows that were put into one list of cells. No two different rows begin at one place, so a cell
 -- and its column tell its row.
-use Rattle.std.specs.Prelude.{ℕ, ◌≡◌, ◌+◌, ◌<◌, ◌≤◌, Bool, true, false, List, length, Option}
-use Rattle.std.specs.Prelude.{[], Some, None, slice_index, slice_index_or}
+use Rattle.std.specs.Prelude.{ℕ, ◌≡◌, ◌+◌, ◌-◌, ◌<◌, ◌≤◌, Bool, true, false, not, ◌&&◌, ◌||◌}
+use Rattle.std.specs.Prelude.{List, length, map, max, Option, [], Some, None, is_some, unwrap_or}
+use Rattle.std.specs.Prelude.{if◌then◌else◌, nat_eq, nat_le, slice_index, slice_index_or}
+use Rattle.std.specs.List.{filter, list_any, position_or_len, range_with_len}
 use Rattle.ycode.specs.Combs.{held_at, AreAtMost}
 use Rattle.ycode.specs.declared.entry.Entry.{Entry}
 use Rattle.ycode.specs.Entries.{entry_at, EntriesAtMost}
@@ -16,6 +18,44 @@ pub record PackingValue : Type 0 where
 -- a row begins at d
 abbrev pub Begins : List Bool → ℕ → Type 0
 Begins begun d = slice_index_or begun d false ≡ true
+
+-- the cell at a place is taken: its check is a column
+abbrev pub is_taken : PackingValue → ℕ → Bool
+is_taken p i = not (nat_eq (slice_index_or p.checks i p.width) p.width)
+
+-- a row of these columns can begin at d: no other begins there, and none of its cells is taken
+abbrev pub can_begin : PackingValue → List ℕ → ℕ → Bool
+can_begin p columns d = not (slice_index_or p.begun d false) &&
+    not (list_any (λ t. is_taken p (d + t)) columns)
+
+-- the first place at which it can begin; at the end of the cells it can
+abbrev pub first_place : PackingValue → List ℕ → ℕ
+first_place p columns = position_or_len (can_begin p columns) (range_with_len 0 (length p.checks))
+
+-- the columns at which a row has a number
+abbrev pub columns_in : List (Option ℕ) → List ℕ
+columns_in row = filter (λ t. is_some (slice_index_or row t None)) (range_with_len 0 (length row))
+
+-- the number that a row at d has at place i
+abbrev pub number_there : List (Option ℕ) → ℕ → ℕ → Option ℕ
+number_there row d i = if nat_le d i then slice_index_or row (i - d) None else None
+
+-- the cells with a row at d among those that are free, and room for all of its columns
+abbrev pub with_row : PackingValue → List (Option ℕ) → ℕ → PackingValue
+with_row p row d = record {
+  width = p.width;
+  checks = map (λ i. if is_some (number_there row d i) then i - d
+      else slice_index_or p.checks i p.width) (range_with_len 0 (max (length p.checks) (d + length row)));
+  values = map (λ i. unwrap_or (number_there row d i) (slice_index p.values i))
+      (range_with_len 0 (max (length p.checks) (d + length row)));
+  begun = map (λ i. nat_eq i d || slice_index_or p.begun i false)
+      (range_with_len 0 (max (length p.checks) (d + length row)));
+}
+
+-- each cell has its number, and it is said of it whether a row begins there
+pub record IsEven (p : PackingValue) : Type 0 where
+  pub values : length p.values ≡ length p.checks
+  pub begun : length p.begun ≡ length p.checks
 
 -- What holds of packed rows: a row has room for all of its columns, and a cell whose check is a
 -- column is of a row. A free cell has the number of columns as its check.

@@ -1,6 +1,7 @@
 -- The symbol over which gotos lead to a state: the one before the dots in it.
-use Rattle.std.specs.Prelude.{ℕ, suc, ◌≡◌, ◌⊎◌, List, ◌∷◌, drop}
-use Rattle.std.specs.List.{Contains}
+use Rattle.std.specs.Prelude.{ℕ, suc, ◌≡◌, ◌-◌, ◌⊎◌, Bool, not, List, ◌∷◌, drop, Option, Some, None}
+use Rattle.std.specs.Prelude.{nat_eq, slice_index}
+use Rattle.std.specs.List.{Contains, find}
 use Rattle.ysymbols.specs.Grammar.{ContextFree, body_of}
 use Rattle.ylalr.specs.declared.items.Item.{Item}
 
@@ -13,3 +14,16 @@ IsBefore g i s = (d : ℕ) × (i.dot ≡ suc d) × ((y : List ℕ) × (drop d (b
 abbrev pub StandsBefore : ContextFree → List Item → ℕ → Type 0
 StandsBefore g k s = ((i : Item) × Contains k i × IsBefore g i s) ⊎
     (((i : Item) → Contains k i → i.dot ≡ 0) × (s ≡ 0))
+
+-- the dot of the item has moved
+abbrev pub has_moved : Item → Bool
+has_moved i = not (nat_eq i.dot 0)
+
+-- the symbol before the dot of an item, or 0
+abbrev pub symbol_behind : ContextFree → Option Item → ℕ
+symbol_behind g None = 0
+symbol_behind g (Some i) = slice_index (body_of g i.rule) (i.dot - 1)
+
+-- the symbol before the dot of the first item in which it has moved, or 0
+abbrev pub symbol_for : ContextFree → List Item → ℕ
+symbol_for g k = symbol_behind g (find has_moved k)

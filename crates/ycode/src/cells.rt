@@ -5,18 +5,20 @@ ghost use Rattle.std.specs.Prelude.{ℕ, ◌≡◌, ◌<◌, ◌≤◌, ◌+◌,
 ghost use Rattle.std.specs.Prelude.{None, slice_index_or, false};
 ghost use Rattle.ytables.specs.Cell.{is_reduce};
 ghost use Rattle.ytables.specs.Tables.{action_at};
-ghost use Rattle.ycode.specs.Bits.{KeepsSets};
+ghost use Rattle.ycode.specs.Bits.{KeepsSets, AreListed};
 ghost use Rattle.ycode.specs.Cells.{Fits, number_for, wanted_at, is_refused, IsUsual, IsSetOf};
 ghost use Rattle.ycode.specs.Cells.{AreCells, AreSets, AreSizes, states_of, tokens_of, rules_of};
+ghost use Rattle.ycode.specs.Cells.{rule_in, reductions_in, with_set_in, set_number};
 ghost use Rattle.ysymbols.specs.Grammar.{most_rules};
 ghost use Rattle.yrows.specs.Limits.{most_states};
-ghost use Rattle.ycode.specs.Entries.{entry_at, EntriesAtMost};
+ghost use Rattle.ycode.specs.Entries.{entry_at, entries_for, EntriesAtMost};
 
 use crate::entry::{Entry, push_number};
 use crate::sets::Sets;
 use crate::sizes::Sizes;
+use crate::usual::most_usual;
 use std::alloc::{AllocError, Global};
-use ycells::shift_at;
+use yreasons::shift_at;
 use yrows::list::Sequence;
 use ysymbols::Sym;
 use ytables::{Action, Tables};
@@ -41,6 +43,16 @@ fn reduces_by(action: Action, rule: usize) -> bool
     match action {
         Action::Reduce(r) => r == rule,
         _ => false,
+    }
+}
+
+/// The rule that an action reduces by, where it reduces.
+fn rule_of(action: Action) -> Option<usize>
+    ensures { result ≡ rule_in action }
+{
+    match action {
+        Action::Reduce(r) => Some(r),
+        _ => None,
     }
 }
 
@@ -111,6 +123,8 @@ fn entries_of(
         → entry_at es t ≡ wanted_at tables.now usual q t) }
     ensures none { IfOk result (λ es. entry_at es (tokens_of tables.now) ≡ None) }
     ensures most { IfOk result (EntriesAtMost (states_of tables.now + rules_of tables.now)) }
+    ensures list { IfOk result (λ es. es
+        ≡ entries_for (wanted_at tables.now usual q) (tokens_of tables.now)) }
 {
     let mut entries = Sequence::new(alloc);
     for t in 0..sizes.tokens {
@@ -119,37 +133,37 @@ fn entries_of(
     Ok(entries)
 }
 
-/// The rule that most cells of state `q` reduce by, or 0.
-fn most_usual(alloc: Global, tables: &Tables, sizes: &Sizes, q: usize) -> Result<usize, AllocError>
+/// For each token the rule that state `q` reduces by at it, where it reduces.
+fn reductions_of(
+    alloc: Global,
+    tables: &Tables,
+    sizes: &Sizes,
+    q: usize,
+) -> Result<Vec<Option<usize>>, AllocError>
     requires sizes { AreSizes tables.now sizes.now }
     requires state { q < states_of tables.now }
-    ensures { IfOk result (λ r. r < rules_of tables.now) }
+    ensures { IfOk result (λ v. v.items ≡ reductions_in tables.now q) }
 {
-    let mut counts: Vec<usize> = vec![in alloc; 0; sizes.rules]?;
-    let mut usual = 0;
+    let mut rules = Vec::with_capacity(alloc, sizes.tokens)?;
     for t in 0..sizes.tokens {
-        if let Action::Reduce(r) = tables.action(q, t) {
-            if r < sizes.rules {
-                counts[r] = counts[r].saturating_add(1);
-                if counts[usual] < counts[r] {
-                    usual = r;
-                }
-            }
-        }
+        rules.push(rule_of(tables.action(q, t)))?;
     }
-    Ok(usual)
+    Ok(rules)
 }
 
-/// The rule of the usual reduction of state `q`: the default rule, where it has one.
+/// The rule of the usual reduction of state `q`: the default rule, where it has one, and else the
+/// rule that most of its cells reduce by.
 fn usual_of(alloc: Global, tables: &Tables, sizes: &Sizes, q: usize) -> Result<usize, AllocError>
     requires sizes { AreSizes tables.now sizes.now }
     requires state { q < states_of tables.now }
     ensures { IfOk result (IsUsual tables.now q) }
 {
-    match tables.default_rule(q) {
-        Some(rule) => Ok(rule),
-        None => most_usual(alloc, tables, sizes, q),
+    if let Some(rule) = tables.default_rule(q) {
+        return Ok(rule);
     }
+    let rules = reductions_of(alloc, tables, sizes, q)?;
+    let rule = most_usual(alloc, &rules, sizes.rules)?;
+    Ok(rule)
 }
 
 /// For each token whether state `q` reduces by the rule at it.
@@ -190,12 +204,16 @@ fn set_of(
     requires sets { AreSets tables.now q sets.old }
     ensures set { IfOk result (IsSetOf tables.now q usual sets.new) }
     ensures keeps { OnOk result (KeepsSets sets.old sets.new) }
+    ensures listed { OnOk result (AreListed sets.new) }
+    ensures exact { OnOk result (sets.new ≡ with_set_in tables.now sets.old q) }
+    ensures number { IfOk result (λ n. n ≡ set_number tables.now sets.new q) }
 {
     if tables.default_rule(q).is_some() {
         return Ok(0);
     }
     let members = members_of(alloc, tables, sizes, usual, q)?;
-    sets.put(alloc, &members)
+    let n = sets.put(alloc, &members)?;
+    Ok(n)
 }
 
 /// The cells of all states.

@@ -1,7 +1,8 @@
 //! The arrays of a C parser.
 
-ghost use Rattle.std.specs.Prelude.{IfOk};
+ghost use Rattle.std.specs.Prelude.{◌≡◌, IfOk};
 ghost use Rattle.ycode.specs.Reads.{IsCode};
+ghost use Rattle.ycode.specs.Whole.{code_for};
 
 use crate::cells::all_cells;
 use crate::comb::{Comb, comb_of};
@@ -52,10 +53,11 @@ pub struct Code {
 }
 
 /// The arrays of the parser by these tables: the numbers in them say what the tables say, each
-/// index that is formed lies in its array, and each number is small. It fails only when memory runs
-/// out.
+/// index that is formed lies in its array, and each number is small. Equal tables have equal arrays.
+/// It fails only when memory runs out.
 pub fn code_of(alloc: Global, tables: &Tables) -> Result<Code, AllocError>
-    ensures { IfOk result (IsCode tables.now) }
+    ensures says { IfOk result (IsCode tables.now) }
+    ensures value { IfOk result (λ c. c ≡ code_for tables.now) }
 {
     let sizes = sizes_of(tables);
     let automaton = tables.automaton();

@@ -1,19 +1,18 @@
 //! Rows that are put into one list of cells.
 
-ghost use Rattle.std.specs.Prelude.{ℕ, ◌≡◌, ◌+◌, ◌<◌, ◌≤◌, ◌^◌, ◌≢◌, [], true, false, length, max};
-ghost use Rattle.std.specs.Prelude.{All};
-ghost use Rattle.std.specs.Prelude.{None, IfOk, OnOk, IfSome, vec_len, slice_index, slice_index_or};
-ghost use Rattle.ycode.specs.Combs.{held_at, AreAtMost};
-ghost use Rattle.ycode.specs.Packing.{HasRow, IsPut, FitsAt, IsGrown, IsWritten};
+ghost use Rattle.std.specs.Prelude.{ℕ, ◌≡◌, ◌+◌, ◌<◌, ◌≤◌, ◌^◌, [], true, false, length, max, All};
+ghost use Rattle.std.specs.Prelude.{IfOk, OnOk, vec_len, slice_index_or};
+ghost use Rattle.std.specs.List.{list_any};
+ghost use Rattle.ycode.specs.Combs.{AreAtMost};
+ghost use Rattle.ycode.specs.Packing.{IsPacking, IsPut, IsGrown, IsWritten, IsEven};
+ghost use Rattle.ycode.specs.Packing.{is_taken, can_begin, columns_in, with_row};
 
 use std::alloc::{AllocError, Global};
-use std::collections::HashMap;
 use std::marker::Model;
-use yrows::slots::{Slots, blocked};
-use ysymbols::let_go;
 
 /// Rows in one list of cells. A cell has a number, and as its check the column that it is of; a
 /// free cell has the number of columns as its check. Different rows begin at different places.
+#[derive(Drop)]
 pub struct Packing {
     /// How many columns a row has.
     width: usize,
@@ -21,19 +20,6 @@ pub struct Packing {
     values: Vec<usize>,
     /// Whether a row begins at a place.
     begun: Vec<bool>,
-    /// Which cells are taken.
-    cells: Slots,
-    /// Where rows begin.
-    starts: Slots,
-    /// Where the last row with this hash begins.
-    known: HashMap<u64, usize>,
-}
-
-impl Drop for Packing {
-    // A call in each owner, which keeps their proofs short.
-    fn drop(self) {
-        let_go!(self: Packing { width, checks, values, begun, cells, starts, known });
-    }
 }
 
 impl Model for Packing {
@@ -51,21 +37,10 @@ impl Model for Packing {
     ghost invariant = { λ p. IsPacking p.width p.checks.items p.values.items p.begun.items };
 }
 
-/// A hash of a row.
-fn hash_of(row: &[Option<usize>]) -> u64 {
-    let mut hash: u64 = 0xcbf2_9ce4_8422_2325;
-    for t in 0..row.len() {
-        if let Some(n) = row[t] {
-            hash = (hash ^ t as u64).wrapping_mul(0x100_0000_01b3);
-            hash = (hash ^ n as u64).wrapping_mul(0x100_0000_01b3);
-        }
-    }
-    hash
-}
-
 /// The columns of a row that have a number.
-fn columns_of(alloc: Global, row: &[Option<usize>]) -> Result<Vec<usize>, AllocError>
-    ensures { IfOk result (λ v. All (λ t. t < length row.now) v.items) }
+pub fn columns_of(alloc: Global, row: &[Option<usize>]) -> Result<Vec<usize>, AllocError>
+    ensures below { IfOk result (λ v. All (λ t. t < length row.now) v.items) }
+    ensures value { IfOk result (λ v. v.items ≡ columns_in row.now) }
 {
     let mut columns = Vec::new(alloc);
     for t in 0..row.len() {
@@ -74,48 +49,6 @@ fn columns_of(alloc: Global, row: &[Option<usize>]) -> Result<Vec<usize>, AllocE
         }
     }
     Ok(columns)
-}
-
-/// The number at a place, where the check there is the column.
-fn held(checks: &[usize], values: &[usize], at: usize, t: usize) -> Option<usize>
-    requires checks { at < length checks.now }
-    requires values { at < length values.now }
-    ensures { result ≡ held_at checks.now values.now at t }
-{
-    if checks[at] == t {
-        Some(values[at])
-    } else {
-        None
-    }
-}
-
-/// Whether what begins at a place is this row.
-fn is_row(checks: &[usize], values: &[usize], row: &[Option<usize>], d: usize) -> bool
-    requires room { d + length row.now ≤ length checks.now }
-    requires beside { length checks.now ≤ length values.now }
-    ensures { result ≡ true → (t : ℕ) → t < length row.now
-        → held_at checks.now values.now (d + t) t ≡ slice_index_or row.now t None }
-{
-    for t in 0..row.len() {
-        if held(checks, values, d + t, t) != row[t] {
-            return false;
-        }
-    }
-    true
-}
-
-/// Whether no number of the row meets a cell that is taken.
-fn fits(checks: &[usize], row: &[Option<usize>], d: usize) -> bool
-    requires { d ≤ length checks.now }
-    ensures fits { result ≡ true → FitsAt checks.now row.now d }
-    ensures within { result ≡ false → d < length checks.now }
-{
-    for t in 0..row.len() {
-        if row[t].is_some() && d + t < checks.len() && checks[d + t] != row.len() {
-            return false;
-        }
-    }
-    true
 }
 
 /// Adds free cells, so that there are at least `end`.
@@ -134,6 +67,8 @@ fn grow(
     ensures most { vec_len checks.new ≤ max (vec_len checks.old) end }
     ensures even { OnOk result (vec_len values.old ≡ vec_len checks.old
         → vec_len values.new ≡ vec_len checks.new) }
+    ensures marks { OnOk result (vec_len begun.old ≡ vec_len checks.old
+        → vec_len begun.new ≡ vec_len checks.new) }
 {
     while checks.len() < end {
         values.push(0)?;
@@ -169,65 +104,72 @@ impl Packing {
             checks: Vec::new(alloc),
             values: Vec::new(alloc),
             begun: Vec::new(alloc),
-            cells: Slots::new(alloc),
-            starts: Slots::new(alloc),
-            known: HashMap::new(alloc),
         }
     }
 
     /// How many columns a row has.
     pub fn width(&self) -> usize
-        ensures { result ≡ self.now.width }
+        ensures value { result ≡ self.now.width }
+        ensures some { 0 < self.now.width }
     {
         self.width
     }
 
-    /// Where such a row begins, if the last one with its hash is the same.
-    fn find(&self, row: &[Option<usize>]) -> Option<usize>
-        requires { length row.now ≡ self.now.width }
-        ensures { IfSome result (λ d. HasRow self.now d row.now) }
+    /// How many cells there are. This call also says what holds of packed rows.
+    pub fn len(&self) -> usize
+        ensures value { result ≡ length self.now.checks }
+        ensures few { result < 2 ^ 63 }
+        ensures valid { IsPacking self.now.width self.now.checks self.now.values self.now.begun }
     {
-        let d = self.known.get(&hash_of(row)).copied()?;
-        let begins = self.begun.get(d).copied() == Some(true);
-        if begins && is_row(&self.checks, &self.values, row, d) {
-            Some(d)
-        } else {
-            None
-        }
-    }
-
-    /// A place where no row begins and this row meets no other; 64 are tried at a time.
-    fn place_for(&self, row: &[Option<usize>], columns: &[usize]) -> usize
-        requires row { length row.now ≡ self.now.width }
-        requires columns { All (λ t. t < 2 ^ 63) columns.now }
-        ensures fits { FitsAt self.now.checks row.now result }
-        ensures free { slice_index_or self.now.begun result false ≡ false }
-        ensures near { result ≤ length self.now.checks }
-    {
-        let mut d = self.cells.start(columns);
-        while d < self.checks.len() {
-            let met = blocked(self.cells.words(), columns, d)
-                | blocked(self.starts.words(), &[0], d);
-            let found = d + met.trailing_ones() as usize;
-            if met != u64::MAX
-                && found < self.checks.len()
-                && !self.begun[found]
-                && fits(&self.checks, row, found)
-            {
-                return found;
-            }
-            d += 64;
-        }
         self.checks.len()
     }
 
-    /// Puts a row where it meets no other. It fails only when memory runs out.
-    fn place(&mut self, alloc: Global, row: &[Option<usize>]) -> Result<usize, AllocError>
-        requires { length row.now ≡ self.old.width }
-        ensures { IfOk result (IsPut self.old self.new row.now) }
+    /// Whether the cell at a place is taken.
+    pub fn is_taken(&self, at: usize) -> bool
+        ensures value { result ≡ is_taken self.now at }
+        ensures inside { result ≡ true → at < 2 ^ 63 }
     {
-        let columns = columns_of(alloc, row)?;
-        let d = self.place_for(row, &columns);
+        at < self.checks.len() && self.checks[at] != self.width
+    }
+
+    /// Whether a row begins at a place.
+    fn begins(&self, d: usize) -> bool
+        ensures { result ≡ slice_index_or self.now.begun d false }
+    {
+        d < self.begun.len() && self.begun[d]
+    }
+
+    /// Whether a row of these columns would meet a cell that is taken.
+    fn meets(&self, columns: &[usize], d: usize) -> bool
+        requires near { d < 2 ^ 63 }
+        requires columns { All (λ t. t < 2 ^ 63) columns.now }
+        ensures { result ≡ list_any (λ t. is_taken self.now (d + t)) columns.now }
+    {
+        for t in columns {
+            if self.is_taken(d + *t) {
+                return true;
+            }
+        }
+        false
+    }
+
+    /// Whether a row of these columns can begin at a place.
+    pub fn can_begin(&self, columns: &[usize], d: usize) -> bool
+        requires near { d < 2 ^ 63 }
+        requires columns { All (λ t. t < 2 ^ 63) columns.now }
+        ensures { result ≡ can_begin self.now columns.now d }
+    {
+        !self.begins(d) && !self.meets(columns, d)
+    }
+
+    /// Puts a row at a place where it can begin. It fails only when memory runs out.
+    pub fn put(&mut self, row: &[Option<usize>], d: usize) -> Result<(), AllocError>
+        requires row { length row.now ≡ self.old.width }
+        requires free { can_begin self.old (columns_in row.now) d ≡ true }
+        requires near { d ≤ length self.old.checks }
+        ensures put { OnOk result (IsPut self.old self.new row.now d) }
+        ensures exact { OnOk result (IsEven self.old → self.new ≡ with_row self.old row.now d) }
+    {
         grow(
             &mut self.checks,
             &mut self.values,
@@ -235,25 +177,9 @@ impl Packing {
             row.len(),
             d + row.len(),
         )?;
-        self.cells.take(&columns, d)?;
-        self.starts.take(&[0], d)?;
         self.begun[d] = true;
         write(&mut self.checks, &mut self.values, row, d);
-        Ok(d)
-    }
-
-    /// Where the row begins, now that it is among the rows: equal rows begin at one place. It
-    /// fails only when memory runs out; what the rows are then is not said.
-    pub fn put(&mut self, alloc: Global, row: &[Option<usize>]) -> Result<usize, AllocError>
-        requires { length row.now ≡ self.old.width }
-        ensures { IfOk result (IsPut self.old self.new row.now) }
-    {
-        if let Some(d) = self.find(row) {
-            return Ok(d);
-        }
-        let d = self.place(alloc, row)?;
-        self.known.insert(hash_of(row), d)?;
-        Ok(d)
+        Ok(())
     }
 
     /// The cells: their checks, and their numbers.
@@ -268,9 +194,6 @@ impl Packing {
             checks,
             values,
             begun: _,
-            cells: _,
-            starts: _,
-            known: _,
         } = self;
         (checks, values)
     }

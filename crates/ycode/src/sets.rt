@@ -2,13 +2,15 @@
 
 ghost use Rattle.std.specs.Prelude.{ℕ, ◌≡◌, ◌+◌, ◌*◌, ◌/◌, ◌<◌, ◌≤◌, ◌^◌, ◌++◌, [], true, false};
 ghost use Rattle.std.specs.Prelude.{length};
-ghost use Rattle.std.specs.Prelude.{All, IfOk, OnOk, IfSome, replicate, nat_eq, slice_index_or};
+ghost use Rattle.std.specs.Prelude.{All, IfOk, OnOk, replicate, nat_eq, slice_index_or};
 ghost use Rattle.std.specs.Int.{bit_at};
 ghost use Rattle.ysymbols.specs.Grammar.{most_symbols};
-ghost use Rattle.ycode.specs.Bits.{bit_of, AreBits, HasSet, IsSets, KeepsSets};
+ghost use Rattle.ysymbols.specs.Names.{is_among};
+ghost use Rattle.ycode.specs.Bits.{AreBits, HasSet, IsSets, KeepsSets, AreListed};
+ghost use Rattle.ycode.specs.Bits.{byte_for, bytes_for, and_set, with_set, number_of};
 
+use crate::lists::Lists;
 use std::alloc::{AllocError, Global};
-use std::collections::HashMap;
 use std::marker::Model;
 use ysymbols::let_go;
 
@@ -22,14 +24,14 @@ pub struct Sets {
     /// How many sets there are.
     count: usize,
     bytes: Vec<usize>,
-    /// The last set with this hash.
-    known: HashMap<u64, usize>,
+    /// The bytes of each set but the first.
+    others: Lists,
 }
 
 impl Drop for Sets {
     // A call in each owner, which keeps their proofs short.
     fn drop(self) {
-        let_go!(self: Sets { span, count, bytes, known });
+        let_go!(self: Sets { span, count, bytes, others });
     }
 }
 
@@ -38,21 +40,19 @@ impl Model for Sets {
 
     ghost Value = { SetsValue };
 
-    ghost view = { λ s. record { span = s.span; count = s.count; bytes = s.bytes.items } };
+    ghost view = { λ s. record {
+      span = s.span;
+      count = s.count;
+      bytes = s.bytes.items;
+      others = s.others;
+    } };
 
-    ghost invariant = { λ s. IsSets (
-        record { span = s.span; count = s.count; bytes = s.bytes.items }) };
-}
-
-/// A hash of a set.
-fn hash_of(members: &[bool]) -> u64 {
-    let mut hash: u64 = 0xcbf2_9ce4_8422_2325;
-    for t in 0..members.len() {
-        if members[t] {
-            hash = (hash ^ t as u64).wrapping_mul(0x100_0000_01b3);
-        }
-    }
-    hash
+    ghost invariant = { λ s. IsSets (record {
+      span = s.span;
+      count = s.count;
+      bytes = s.bytes.items;
+      others = s.others;
+    }) };
 }
 
 /// Whether a token is a member.
@@ -68,6 +68,7 @@ fn byte_of(members: &[bool], at: usize) -> usize
     ensures bits { (k : ℕ) → k < 8 → nat_eq (bit_at result k) 1
         ≡ slice_index_or members.now (at + k) false }
     ensures small { result < 256 }
+    ensures value { result ≡ byte_for members.now at }
 {
     let mut byte = 0;
     for k in 0..BITS {
@@ -84,34 +85,13 @@ fn bytes_of(alloc: Global, members: &[bool], span: usize) -> Result<Vec<usize>, 
     ensures len { IfOk result (λ v. length v.items ≡ span) }
     ensures bits { IfOk result (λ v. AreBits v.items 0 span members.now) }
     ensures small { IfOk result (λ v. All (λ b. b < 256) v.items) }
+    ensures value { IfOk result (λ v. v.items ≡ bytes_for span members.now) }
 {
     let mut bytes = Vec::with_capacity(alloc, span)?;
     for k in 0..span {
         bytes.push(byte_of(members, BITS * k))?;
     }
     Ok(bytes)
-}
-
-/// Bit `t` of the bytes from `at` on.
-fn has_bit(bytes: &[usize], at: usize, t: usize) -> bool
-    requires { at + t / 8 < length bytes.now }
-    ensures { result ≡ bit_of bytes.now at t }
-{
-    (bytes[at + t / BITS] >> (t % BITS)) & 1 == 1
-}
-
-/// Whether the bytes from `at` on are those of this set.
-fn is_set(bytes: &[usize], at: usize, span: usize, members: &[bool]) -> bool
-    requires room { at + span ≤ length bytes.now }
-    requires narrow { span < 2 ^ 32 }
-    ensures { result ≡ true → AreBits bytes.now at span members.now }
-{
-    for t in 0..BITS * span {
-        if has_bit(bytes, at, t) != is_member(members, t) {
-            return false;
-        }
-    }
-    true
 }
 
 impl Sets {
@@ -122,6 +102,9 @@ impl Sets {
         ensures all { IfOk result (λ s. HasSet s 0 (replicate tokens true)) }
         ensures count { IfOk result (λ s. s.count ≡ 1) }
         ensures span { IfOk result (λ s. s.span ≡ (tokens + 7) / 8) }
+        ensures bytes { IfOk result (λ s. s.bytes
+            ≡ bytes_for ((tokens + 7) / 8) (replicate tokens true)) }
+        ensures others { IfOk result (λ s. s.others ≡ []) }
     {
         let span = tokens.div_ceil(BITS);
         let all = vec![in alloc; true; tokens]?;
@@ -130,32 +113,23 @@ impl Sets {
             span,
             count: 1,
             bytes,
-            known: HashMap::new(alloc),
+            others: Lists::new(alloc),
         })
     }
 
-    /// The number of this set, if the last one with its hash is the same.
-    fn find(&self, members: &[bool]) -> Option<usize>
-        ensures set { IfSome result (λ n. HasSet self.now n members.now) }
-        ensures other { IfSome result (λ n. 0 < n) }
-    {
-        let n = self.known.get(&hash_of(members)).copied()?;
-        if 0 < n && n < self.count && is_set(&self.bytes, n * self.span, self.span, members) {
-            Some(n)
-        } else {
-            None
-        }
-    }
-
-    /// Adds a set behind the others. It fails only when memory runs out, and then changes nothing.
-    fn add(&mut self, alloc: Global, members: &[bool]) -> Result<usize, AllocError>
-        ensures set { IfOk result (λ n. HasSet self.new n members.now) }
-        ensures other { IfOk result (λ n. 0 < n) }
-        ensures keeps { OnOk result (KeepsSets self.old self.new) }
+    /// Adds a set behind the others. It fails only when memory runs out; what the sets are then is
+    /// not said.
+    fn add(&mut self, alloc: Global, set: &[usize]) -> Result<usize, AllocError>
+        requires fresh { is_among self.old.others set.now ≡ false }
+        requires len { length set.now ≡ self.old.span }
+        requires small { All (λ b. b < 256) set.now }
+        ensures number { IfOk result (λ n. n ≡ self.old.count) }
+        ensures exact { OnOk result (self.new ≡ and_set self.old set.now) }
+        ensures sets { IsSets self.old }
     {
         let n = self.count;
-        let bytes = bytes_of(alloc, members, self.span)?;
-        self.bytes.extend_from_slice(&bytes)?;
+        self.others.push(alloc, set)?;
+        self.bytes.extend_from_slice(set)?;
         self.count += 1;
         Ok(n)
     }
@@ -163,15 +137,21 @@ impl Sets {
     /// The number of this set, now that it is among the sets: another than 0. It fails only when
     /// memory runs out; what the sets are then is not said.
     pub fn put(&mut self, alloc: Global, members: &[bool]) -> Result<usize, AllocError>
+        requires { AreListed self.old }
         ensures set { IfOk result (λ n. HasSet self.new n members.now) }
         ensures other { IfOk result (λ n. 0 < n) }
         ensures keeps { OnOk result (KeepsSets self.old self.new) }
+        ensures listed { OnOk result (AreListed self.new) }
+        ensures exact { OnOk result (self.new
+            ≡ with_set self.old (bytes_for self.old.span members.now)) }
+        ensures number { IfOk result (λ n. n
+            ≡ number_of self.new (bytes_for self.old.span members.now)) }
     {
-        if let Some(n) = self.find(members) {
-            return Ok(n);
+        let set = bytes_of(alloc, members, self.span)?;
+        if let Some(n) = self.others.find(&set) {
+            return Ok(n + 1);
         }
-        let n = self.add(alloc, members)?;
-        self.known.insert(hash_of(members), n)?;
+        let n = self.add(alloc, &set)?;
         Ok(n)
     }
 
@@ -191,7 +171,7 @@ impl Sets {
             span: _,
             count: _,
             bytes,
-            known: _,
+            others: _,
         } = self;
         bytes
     }

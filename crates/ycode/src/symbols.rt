@@ -1,10 +1,11 @@
 //! The symbol over which gotos lead to each state.
 
-ghost use Rattle.std.specs.Prelude.{ℕ, ◌≡◌, ◌<◌, ◌≤◌, length, IfOk, slice_index};
+ghost use Rattle.std.specs.Prelude.{ℕ, ◌≡◌, ◌<◌, ◌≤◌, length, map, IfOk, slice_index};
+ghost use Rattle.std.specs.List.{range_with_len};
 ghost use Rattle.ylalr.specs.Collection.{state_of};
 ghost use Rattle.ylalr.specs.Sets.{InRange};
 ghost use Rattle.ycode.specs.Cells.{AreSizes, states_of};
-ghost use Rattle.ycode.specs.Symbols.{StandsBefore};
+ghost use Rattle.ycode.specs.Symbols.{StandsBefore, symbol_for};
 
 use crate::numbers::Numbers;
 use crate::sizes::Sizes;
@@ -16,7 +17,8 @@ use ytables::Tables;
 /// The symbol before the dot of one of these items, or 0 where each dot is at the front.
 fn symbol_before(grammar: &Grammar, items: &[Item]) -> Sym
     requires { InRange grammar.now.bare items.now }
-    ensures { StandsBefore grammar.now.bare items.now result }
+    ensures before { StandsBefore grammar.now.bare items.now result }
+    ensures is { result ≡ symbol_for grammar.now.bare items.now }
 {
     for item in items {
         if item.dot != 0 {
@@ -33,6 +35,8 @@ pub fn symbols_of(alloc: Global, tables: &Tables, sizes: &Sizes) -> Result<Numbe
     ensures symbols { IfOk result (λ v. (q : ℕ) → q < states_of tables.now
         → StandsBefore tables.now.built.grammar.bare (state_of tables.now.built q)
         (slice_index v q)) }
+    ensures list { IfOk result (λ v. v ≡ map (λ q. symbol_for tables.now.built.grammar.bare
+        (state_of tables.now.built q)) (range_with_len 0 (states_of tables.now))) }
 {
     let automaton = tables.automaton();
     let _guide = automaton.states();

@@ -1,15 +1,15 @@
 //! The gotos: the most usual target of each nonterminal, and the explicit entries of all others.
 
-ghost use Rattle.std.specs.Prelude.{ℕ, ◌≡◌, ◌<◌, ◌≤◌, ◌+◌, length, IfOk, IfSome};
-ghost use Rattle.std.specs.Prelude.{slice_index};
+ghost use Rattle.std.specs.Prelude.{ℕ, ◌≡◌, ◌<◌, ◌+◌, length, IfOk, slice_index};
 ghost use Rattle.ylalr.specs.Collection.{goto_in};
 ghost use Rattle.ycode.specs.Cells.{AreSizes, states_of, tokens_of, symbols_of};
 ghost use Rattle.ycode.specs.Combs.{AreAtMost};
 ghost use Rattle.ycode.specs.Entries.{entry_at, EntriesAtMost};
-ghost use Rattle.ycode.specs.Targets.{beside, AreTargets};
+ghost use Rattle.ycode.specs.Targets.{beside, gotos_over, usual_targets, goto_entries, AreTargets};
 
 use crate::entry::{Entry, push_number};
 use crate::sizes::Sizes;
+use crate::usual::most_usual;
 use std::alloc::{AllocError, Global};
 use yrows::list::Sequence;
 use ytables::Tables;
@@ -23,25 +23,22 @@ pub struct Targets {
     pub rows: Vec<Sequence<Entry>>,
 }
 
-/// Counts the gotos of state `q`, and keeps the most usual target of each nonterminal so far.
-fn count_gotos(tables: &Tables, sizes: &Sizes, q: usize, counts: &mut [usize], usual: &mut [usize])
+/// For each state its goto over a nonterminal, where it has one.
+fn gotos_over(
+    alloc: Global,
+    tables: &Tables,
+    sizes: &Sizes,
+    x: usize,
+) -> Result<Vec<Option<usize>>, AllocError>
     requires sizes { AreSizes tables.now sizes.now }
-    requires state { q < states_of tables.now }
-    requires symbols { tokens_of tables.now + length usual.old ≡ symbols_of tables.now }
-    requires most { AreAtMost (length counts.old) usual.old }
-    ensures most { AreAtMost (length counts.old) usual.new }
+    requires nonterminal { tokens_of tables.now + x < symbols_of tables.now }
+    ensures { IfOk result (λ v. v.items ≡ gotos_over tables.now x) }
 {
-    for x in 0..usual.len() {
-        if let Some(n) = tables.goto(q, sizes.tokens + x) {
-            if n < counts.len() {
-                counts[n] = counts[n].saturating_add(1);
-                let most = counts.get(usual[x]).copied().unwrap_or(0);
-                if most < counts[n] {
-                    usual[x] = n;
-                }
-            }
-        }
+    let mut gotos = Vec::with_capacity(alloc, sizes.states)?;
+    for q in 0..sizes.states {
+        gotos.push(tables.goto(q, sizes.tokens + x))?;
     }
+    Ok(gotos)
 }
 
 /// The most usual target of each nonterminal, or 0 where it has no goto.
@@ -49,11 +46,13 @@ fn usual_targets(alloc: Global, tables: &Tables, sizes: &Sizes) -> Result<Vec<us
     requires sizes { AreSizes tables.now sizes.now }
     ensures len { IfOk result (λ v. tokens_of tables.now + length v.items ≡ symbols_of tables.now) }
     ensures most { IfOk result (λ v. AreAtMost (states_of tables.now) v.items) }
+    ensures list { IfOk result (λ v. v.items ≡ usual_targets tables.now) }
 {
-    let mut counts: Vec<usize> = vec![in alloc; 0; sizes.states]?;
-    let mut usual: Vec<usize> = vec![in alloc; 0; sizes.symbols - sizes.tokens]?;
-    for q in 0..sizes.states {
-        count_gotos(tables, sizes, q, &mut counts, &mut usual);
+    let nonterminals = sizes.symbols - sizes.tokens;
+    let mut usual = Vec::with_capacity(alloc, nonterminals)?;
+    for x in 0..nonterminals {
+        let gotos = gotos_over(alloc, tables, sizes, x)?;
+        usual.push(most_usual(alloc, &gotos, sizes.states)?)?;
     }
     Ok(usual)
 }
@@ -83,6 +82,7 @@ fn entries_of(
         ≡ beside (slice_index usual.now x)
         (goto_in tables.now.built q (tokens_of tables.now + x))) }
     ensures most { IfOk result (EntriesAtMost (states_of tables.now)) }
+    ensures list { IfOk result (λ es. es ≡ goto_entries tables.now usual.now q) }
 {
     let mut entries = Sequence::new(alloc);
     for x in 0..usual.len() {

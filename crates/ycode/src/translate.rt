@@ -3,7 +3,7 @@
 ghost use Rattle.std.specs.Prelude.{ℕ, ◌≡◌, ◌≢◌, ◌<◌, ◌≤◌, ◌+◌, ◌^◌, Some, length, IfOk, slice_get};
 ghost use Rattle.std.specs.Prelude.{slice_index};
 ghost use Rattle.ycode.specs.Combs.{AreAtMost};
-ghost use Rattle.ycode.specs.Translation.{TranslatesTo};
+ghost use Rattle.ycode.specs.Translation.{TranslatesTo, bound_for, tokens_for};
 
 use crate::numbers::Numbers;
 use std::alloc::{AllocError, Global};
@@ -14,6 +14,7 @@ fn bound_of(grammar: &Grammar, tokens: usize) -> usize
     requires { tokens ≡ grammar.now.bare.tokens }
     ensures above { (s n : ℕ) → s < tokens → slice_get grammar.now.numbers s ≡ Some n → n < result }
     ensures few { result ≤ 2 ^ 32 }
+    ensures is { result ≡ bound_for grammar.now.numbers }
 {
     let _well_formed = grammar.symbols();
     let mut bound = 0;
@@ -36,6 +37,7 @@ pub fn translation_of(
     ensures translates { IfOk result (TranslatesTo tokens grammar.now.numbers tokens) }
     ensures most { IfOk result (λ v. AreAtMost tokens v) }
     ensures few { IfOk result (λ v. length v ≤ 2 ^ 32) }
+    ensures list { IfOk result (λ v. v ≡ tokens_for grammar.now.numbers) }
 {
     let _well_formed = grammar.symbols();
     let mut symbols = vec![in alloc; tokens; bound_of(grammar, tokens)]?;

@@ -1,6 +1,5 @@
 //! The lists of tokens that get to a conflict, each tried in a session.
 
-use crate::budget::part_of;
 use crate::groups::{Group, Kind};
 use crate::others::Others;
 use crate::search::{Finder, Found, Target};
@@ -10,6 +9,7 @@ use std::io;
 use yexplain::reads::Made;
 use ylalr::END;
 use yparse::Session;
+use ysearch::budget::Share;
 use ysymbols::{Sym, let_go};
 
 /// How many lists are tried, the first one among them, where that one doesn't get there.
@@ -79,26 +79,6 @@ pub struct Finding {
     pub late: bool,
 }
 
-impl Finding {
-    /// Whether there is a list for a rule already, of which this is to be one.
-    fn is_done(&self, rule: usize, allows: Allows) -> bool {
-        self.lists
-            .iter()
-            .any(|list| list.allows == allows && list.rules.contains(&rule))
-    }
-
-    /// Adds a rule to the list of these tokens, and says whether there is one.
-    fn share(&mut self, goal: Goal, tokens: &[Sym]) -> Made<bool> {
-        for list in self.lists.iter_mut() {
-            if list.allows == goal.allows && list.tokens.as_slice() == tokens {
-                list.rules.push(goal.rule)?;
-                return Ok(true);
-            }
-        }
-        Ok(false)
-    }
-}
-
 /// What lists are sought with.
 #[derive(Drop)]
 pub struct Seeker<'a> {
@@ -107,10 +87,9 @@ pub struct Seeker<'a> {
     pub finder: Finder,
     /// The session in which lists are tried.
     pub session: &'a mut Session,
-    /// How many steps first lists may still take.
-    steps: usize,
-    /// How many steps further lists may still take.
-    steps_for_others: usize,
+    /// How many steps first lists may take, and further ones.
+    steps: Share,
+    steps_for_others: Share,
 }
 
 /// A cell and the rules of which both are to be possible; the rule that the list is for.
@@ -124,16 +103,18 @@ struct Goal {
 impl<'a> Seeker<'a> {
     /// What lists for the conflicts of a session without tokens are sought with.
     pub fn new(alloc: Global, session: &'a mut Session) -> Made<Seeker<'a>> {
+        let steps = Share::new(ALL_STEPS, 8, (LEAST_STEPS, MOST_STEPS));
         Ok(Seeker {
             alloc,
             finder: Finder::new(alloc, session.tables().automaton())?,
             session,
-            steps: ALL_STEPS,
-            steps_for_others: ALL_STEPS,
+            steps,
+            steps_for_others: steps,
         })
     }
 
-    /// The lists for the cells of a kind: for what is taken and each other rule that is shown.
+    /// The lists for the cells of a kind: for what is taken and each other rule that is shown, or
+    /// else one for each of both.
     pub fn find(&mut self, kind: &Kind, group: Group) -> io::Result<Finding> {
         let mut finding = Finding {
             lists: Vec::new(self.alloc),
@@ -141,62 +122,58 @@ impl<'a> Seeker<'a> {
             late: false,
         };
         for rule in kind.others() {
-            self.find_pair(kind, group, *rule, &mut finding)?;
+            let target = Target {
+                state: group.state,
+                token: kind.token,
+                first: kind.taken(),
+                second: Some(*rule),
+            };
+            let allows = match self.finder.find(self.session.tables().automaton(), target)? {
+                Found::Way(way) => {
+                    let (rule, allows) = (*rule, Allows::Both);
+                    let goal = Goal {
+                        target,
+                        rule,
+                        allows,
+                    };
+                    self.add(goal, &way, &mut finding)?;
+                    continue;
+                }
+                Found::Nothing => Allows::One,
+                Found::Late => Allows::Found,
+            };
+            if let Some(taken) = target.first {
+                self.find_one(target, taken, allows, &mut finding)?;
+            }
+            self.find_one(target, *rule, allows, &mut finding)?;
         }
         Ok(finding)
     }
 
-    /// The list for what is taken and a rule, or else a list for each.
-    fn find_pair(
-        &mut self,
-        kind: &Kind,
-        group: Group,
-        rule: usize,
-        finding: &mut Finding,
-    ) -> io::Result<()> {
-        let goal = Goal {
-            target: Target {
-                state: group.state,
-                token: kind.token,
-                first: kind.taken(),
-                second: Some(rule),
-            },
-            rule,
-            allows: Allows::Both,
-        };
-        let allows = match self.way(goal)? {
-            Found::Way(way) => return self.add(goal, &way, finding),
-            Found::Nothing => Allows::One,
-            Found::Late => Allows::Found,
-        };
-        if let Some(taken) = kind.taken() {
-            self.find_one(goal, taken, allows, finding)?;
-        }
-        self.find_one(goal, rule, allows, finding)
-    }
-
-    /// The list for one rule.
+    /// The list for one rule, where there is none yet that allows as much.
     fn find_one(
         &mut self,
-        goal: Goal,
+        target: Target,
         rule: usize,
         allows: Allows,
         finding: &mut Finding,
     ) -> io::Result<()> {
-        if finding.is_done(rule, allows) {
-            return Ok(());
+        for list in &finding.lists {
+            if list.allows == allows && list.rules.contains(&rule) {
+                return Ok(());
+            }
         }
-        let target = Target {
-            first: Some(rule),
-            second: None,
-            ..goal.target
-        };
         let goal = Goal {
-            target,
+            target: Target {
+                first: Some(rule),
+                second: None,
+                ..target
+            },
             rule,
             allows,
         };
-        match self.way(goal)? {
+        let automaton = self.session.tables().automaton();
+        match self.finder.find(automaton, goal.target)? {
             Found::Way(way) => self.add(goal, &way, finding),
             Found::Nothing | Found::Late => {
                 finding.late = true;
@@ -205,33 +182,31 @@ impl<'a> Seeker<'a> {
         }
     }
 
-    /// The shortest way for a list.
-    fn way(&mut self, goal: Goal) -> Made<Found> {
-        let automaton = self.session.tables().automaton();
-        self.finder.shortest(automaton, goal.target)
-    }
-
-    /// Adds the list of a way.
+    /// Adds the list of a way, where it isn't too long.
     fn add(&mut self, goal: Goal, way: &[Sym], finding: &mut Finding) -> io::Result<()> {
-        let automaton = self.session.tables().automaton();
-        let tokens = self.finder.sentence(automaton, way)?;
-        let Some(tokens) = tokens.filter(|tokens| tokens.len() <= MOST_TOKENS) else {
-            finding.long = true;
-            return Ok(());
-        };
-        if !finding.share(goal, &tokens)? {
-            let list = self.tried(goal, tokens)?;
-            finding.lists.push(list).map_err(AllocError::from)?;
+        let grammar = self.session.tables().automaton().grammar();
+        let shortest = &self.finder.shortest;
+        if let Some(tokens) = shortest.sentence(self.alloc, grammar, way)? {
+            if tokens.len() <= MOST_TOKENS {
+                return self.add_list(goal, tokens, finding);
+            }
         }
+        finding.long = true;
         Ok(())
     }
 
-    /// A list, tried, and others where its parse misses the state.
-    fn tried(&mut self, goal: Goal, tokens: Vec<Sym>) -> io::Result<List> {
-        let most = part_of(self.steps, MOST_STEPS, LEAST_STEPS);
-        let (trial, steps) = self.trial(goal, &tokens, most)?;
-        self.steps = self.steps.saturating_sub(steps);
-        self.finder.spend(steps);
+    /// Adds the rule to the list of these tokens, or the list, tried, where there is none; and
+    /// others, where its parse misses the state.
+    fn add_list(&mut self, goal: Goal, tokens: Vec<Sym>, finding: &mut Finding) -> io::Result<()> {
+        for list in finding.lists.iter_mut() {
+            if list.allows == goal.allows && list.tokens.as_slice() == tokens.as_slice() {
+                list.rules.push(goal.rule).map_err(AllocError::from)?;
+                return Ok(());
+            }
+        }
+        let most = self.steps.part();
+        let (trial, steps) = self.tried(goal, &tokens, most)?;
+        self.steps.spend(steps);
         let mut list = List {
             allows: goal.allows,
             rules: Vec::from_slice(self.alloc, &[goal.rule])?,
@@ -244,17 +219,20 @@ impl<'a> Seeker<'a> {
         if trial.is_missed() {
             self.try_others(goal, &mut list)?;
         }
-        Ok(list)
+        finding.lists.push(list).map_err(AllocError::from)?;
+        Ok(())
     }
 
     /// What a parse over tokens comes to in so many steps, and in how many it does.
-    fn trial(&mut self, goal: Goal, tokens: &[Sym], most: usize) -> io::Result<(Trial, usize)> {
+    fn tried(&mut self, goal: Goal, tokens: &[Sym], most: usize) -> io::Result<(Trial, usize)> {
         let cell = trial::Goal {
             state: goal.target.state,
             token: goal.target.token,
             most,
         };
-        try_list(self.session, tokens, cell)
+        let (trial, steps) = try_list(self.session, tokens, cell)?;
+        self.finder.spend(steps);
+        Ok((trial, steps))
     }
 
     /// Tries the next lists, so many at most, until the parse gets there.
@@ -262,13 +240,15 @@ impl<'a> Seeker<'a> {
         let automaton = self.session.tables().automaton();
         let finder = &mut self.finder;
         let mut others = Others::new(self.alloc, finder, automaton, goal.target, MOST_FORMS)?;
-        let mut left = part_of(self.steps_for_others, MOST_STEPS, LEAST_STEPS);
+        let mut left = self.steps_for_others.part();
         for _ in 0..MOST_LISTS {
             let automaton = self.session.tables().automaton();
             let Some(tokens) = others.next(&mut self.finder, automaton)? else {
                 break;
             };
-            left = left.saturating_sub(self.try_new(goal, tokens, left, list)?);
+            if tokens.as_slice() != list.tokens.as_slice() {
+                left = left.saturating_sub(self.try_other(goal, tokens, left, list)?);
+            }
             if left == 0 || list.other.is_some() || !self.finder.has_steps() {
                 break;
             }
@@ -276,22 +256,17 @@ impl<'a> Seeker<'a> {
         Ok(())
     }
 
-    /// Tries another list, where it isn't the first one, keeps it where the parse gets there, and
-    /// gives the steps that it took.
-    fn try_new(
+    /// Tries another list, keeps it where the parse gets there, and gives the steps that it took.
+    fn try_other(
         &mut self,
         goal: Goal,
         tokens: Vec<Sym>,
         most: usize,
         list: &mut List,
     ) -> io::Result<usize> {
-        if tokens.as_slice() == list.tokens.as_slice() {
-            return Ok(0);
-        }
         list.tried = list.tried.saturating_add(1);
-        let (trial, steps) = self.trial(goal, &tokens, most)?;
-        self.steps_for_others = self.steps_for_others.saturating_sub(steps);
-        self.finder.spend(steps);
+        let (trial, steps) = self.tried(goal, &tokens, most)?;
+        self.steps_for_others.spend(steps);
         match trial {
             Trial::Reached(steps) => list.other = Some((tokens, steps)),
             Trial::Recovered(_) => list.recovered = true,

@@ -3,11 +3,13 @@
 use std::alloc::Global;
 use std::collections::HashMap;
 use yexplain::lines::{Lines, Spot};
-use yexplain::reads::{Made, candidates_of, conflicts_of, items_of, next_of, rivals_in, shift_of};
+use yexplain::reads::{
+    Made, candidates_of, conflicts_of, items_of, next_of, rivals_in, set, shift_of,
+};
 use yexplain::why::Question;
 use ylalr::Automaton;
 use ysymbols::Sym;
-use ytables::{Class, Conflict, Tables};
+use ytables::{Class, Tables};
 
 /// The most rivals that are shown; kinds are compared by these.
 pub const MOST_RIVALS: usize = 10;
@@ -96,11 +98,12 @@ impl Kind {
 /// file.
 fn first_rules(tables: &Tables, state: usize, token: Sym) -> [usize; 10] {
     let shifts = shift_of(tables, state, token).is_some();
-    let kept = candidates_of(tables, state, token).filter(|candidate| !shifts
-        || candidate.standing.class() != Class::Lose);
-    let mut rules = [0usize; 10];
-    for (place, candidate) in rules.iter_mut().zip(kept) {
-        *place = candidate.rule;
+    let (mut rules, mut place) = ([0usize; 10], 0);
+    for candidate in candidates_of(tables, state, token) {
+        if !shifts || candidate.standing.class() != Class::Lose {
+            set(&mut rules, place, candidate.rule);
+            place = place.saturating_add(1);
+        }
     }
     rules
 }
@@ -121,18 +124,6 @@ fn shifted(automaton: &Automaton, state: usize, token: Sym) -> u64 {
     number
 }
 
-/// The kind of a conflict of a state.
-fn kind_of(tables: &Tables, state: usize, conflict: Conflict) -> Kind {
-    let token = conflict.token;
-    Kind {
-        token,
-        shifted: shifted(tables.automaton(), state, token),
-        shift: conflict.shift_reduce > 0,
-        rivals: rivals_in(conflict),
-        rules: first_rules(tables, state, token),
-    }
-}
-
 impl Conflicts {
     /// The conflicts of tables.
     pub fn new(alloc: Global, tables: &Tables) -> Made<Conflicts> {
@@ -143,22 +134,24 @@ impl Conflicts {
             others: 0,
         };
         for state in 0..tables.automaton().states() {
-            found.look_at(tables, state)?;
-        }
-        Ok(found)
-    }
-
-    /// Notes the conflicts of a state.
-    fn look_at(&mut self, tables: &Tables, state: usize) -> Made<()> {
-        for conflict in conflicts_of(tables, state) {
-            self.cells = self.cells.saturating_add(1);
-            if self.groups.len() >= MOST_KINDS {
-                self.others = self.others.saturating_add(1);
-            } else {
-                self.note(kind_of(tables, state, *conflict), state)?;
+            for conflict in conflicts_of(tables, state) {
+                found.cells = found.cells.saturating_add(1);
+                if found.groups.len() >= MOST_KINDS {
+                    found.others = found.others.saturating_add(1);
+                    continue;
+                }
+                let token = conflict.token;
+                let kind = Kind {
+                    token,
+                    shifted: shifted(tables.automaton(), state, token),
+                    shift: conflict.shift_reduce > 0,
+                    rivals: rivals_in(*conflict),
+                    rules: first_rules(tables, state, token),
+                };
+                found.note(kind, state)?;
             }
         }
-        Ok(())
+        Ok(found)
     }
 
     /// Notes a conflict of a kind in a state.

@@ -1,11 +1,11 @@
 //! What has to hold in a state so that a rule can be reduced at a token further on: an item must
 //! have that token as its lookahead, by one of the ways that canonical LR(1) items know.
 
-use crate::lists::Lists;
 use std::alloc::Global;
 use yexplain::reads::{Made, begins_with, body_of, has_item, left_of, looks_at, set, vanishes};
 use ylalr::{Automaton, Item};
-use ysymbols::Sym;
+use ysearch::shortest::Shortest;
+use ysymbols::{Grammar, Sym};
 
 /// What a state has to fulfil.
 #[derive(Clone, Copy, Drop, PartialEq, Eq, Hash)]
@@ -17,6 +17,17 @@ pub enum Need {
 }
 
 impl Need {
+    /// What has to hold in a state so that a rule can be reduced there.
+    pub fn complete(grammar: &Grammar, rule: Option<usize>) -> Need {
+        match rule {
+            Some(rule) => Need::Item(Item {
+                rule,
+                dot: body_of(grammar, rule).len(),
+            }),
+            None => Need::Free,
+        }
+    }
+
     /// Whether it is an item with its dot at 0, which rests on others of its state.
     pub fn is_closed(self) -> bool {
         matches!(self, Need::Item(Item { dot: 0, .. }))
@@ -55,7 +66,7 @@ pub struct Needs {
     /// The left sides of this round.
     lefts: Vec<Sym>,
     /// How many items were looked at in this round.
-    looked: usize,
+    pub looked: usize,
 }
 
 /// What the form after a nonterminal is to a token.
@@ -84,16 +95,11 @@ impl Needs {
         })
     }
 
-    /// How many items were looked at last.
-    pub fn looked(&self) -> usize {
-        self.looked
-    }
-
     /// Adds the left side of a rule, where it wasn't met in this round.
     fn meet(&mut self, left: Sym) -> Made<()> {
-        let (round, met) = (self.round, self.met.get(left));
-        if met.map_or(false, |met| *met != round) {
-            set(&mut self.met, left, self.round);
+        let round = self.round;
+        if self.met.get(left).copied().unwrap_or(round) != round {
+            set(&mut self.met, left, round);
             self.lefts.push(left)?;
         }
         Ok(())
@@ -128,9 +134,8 @@ impl Needs {
         &mut self,
         alloc: Global,
         automaton: &Automaton,
-        places: &Lists<Item>,
-        state: usize,
-        item: Item,
+        shortest: &Shortest,
+        (state, item): (usize, Item),
         token: Sym,
     ) -> Made<Vec<Need>> {
         let mut found = Vec::new(alloc);
@@ -139,27 +144,21 @@ impl Needs {
             found.push(Need::Item(item))?;
             return Ok(found);
         }
-        self.begin(automaton, item)?;
+        self.round = self.round.saturating_add(1);
+        self.lefts.clear();
+        if let Some(left) = left_of(automaton.grammar(), item.rule) {
+            self.meet(left)?;
+        }
         for number in 0..self.met.len() {
             let Some(left) = self.lefts.get(number).copied() else {
                 break;
             };
-            if self.take_all(automaton, state, places.of(left), token, &mut found)? {
+            if self.take_all(automaton, state, shortest.places(left), token, &mut found)? {
                 found.clear();
                 found.push(Need::Free)?;
                 break;
             }
         }
         Ok(found)
-    }
-
-    /// Begins a round with the left side of an item.
-    fn begin(&mut self, automaton: &Automaton, item: Item) -> Made<()> {
-        self.round = self.round.saturating_add(1);
-        self.lefts.clear();
-        match left_of(automaton.grammar(), item.rule) {
-            Some(left) => self.meet(left),
-            None => Ok(()),
-        }
     }
 }

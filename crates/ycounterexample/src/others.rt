@@ -1,17 +1,36 @@
 //! Further lists of tokens for a cell, the shortest first: all sentences of the ways to it.
 
 use crate::search::{Finder, Found, Search, Target};
-use crate::sentences::Sentences;
 use std::alloc::Global;
-use yexplain::reads::Made;
+use std::collections::HashSet;
+use yexplain::reads::{Made, body_of};
 use ylalr::Automaton;
-use ysymbols::Sym;
+use ysearch::queue::Queue;
+use ysearch::shortest::Shortest;
+use ysymbols::{Grammar, Sym};
 
 /// How many ways are sought.
 const MOST_WAYS: usize = 100;
 
 /// The most forms that are looked at for one list.
 const MOST_FORMS: usize = 2_000;
+
+/// The most symbols and tokens of a form that is taken in.
+const MOST_SYMBOLS: usize = 1_000;
+
+/// Forms that wait with the length of their shortest sentences.
+#[derive(Drop)]
+struct Sentences {
+    /// All forms that were met.
+    met: HashSet<Vec<Sym>>,
+    /// The same, by their numbers.
+    forms: Vec<Vec<Sym>>,
+    queue: Queue,
+    /// How many forms may still be taken in.
+    left: usize,
+    /// How many symbols the forms had that were offered or taken.
+    symbols: usize,
+}
 
 /// Lists of tokens to come.
 #[derive(Drop)]
@@ -23,6 +42,80 @@ pub struct Others {
     /// Whether there are no more ways.
     done: bool,
     sentences: Sentences,
+}
+
+impl Sentences {
+    /// Nothing waits, and so many forms may be taken in.
+    fn new(alloc: Global, most: usize) -> Sentences {
+        Sentences {
+            met: HashSet::new(alloc),
+            forms: Vec::new(alloc),
+            queue: Queue::new(alloc),
+            left: most,
+            symbols: 0,
+        }
+    }
+
+    /// Takes a form in, where it is new and not too long.
+    fn add(&mut self, shortest: &Shortest, form: Vec<Sym>) -> Made<()> {
+        self.symbols = self.symbols.saturating_add(form.len());
+        let length = shortest.length_of(&form);
+        if self.left == 0 || form.len() > MOST_SYMBOLS || length > MOST_SYMBOLS as u64 {
+            return Ok(());
+        }
+        self.left = self.left.saturating_sub(1);
+        if self.met.insert(form.clone()?)? {
+            self.queue.put(length, self.forms.len())?;
+            self.forms.push(form)?;
+        }
+        Ok(())
+    }
+
+    /// Takes the form of the shortest sentence: itself, where it is one; else the forms of its
+    /// first nonterminal's rules are taken in.
+    fn take(
+        &mut self,
+        alloc: Global,
+        shortest: &Shortest,
+        grammar: &Grammar,
+    ) -> Made<Option<Vec<Sym>>> {
+        let Some((_, number)) = self.queue.take() else {
+            return Ok(None);
+        };
+        let form = match self.forms.get(number) {
+            Some(form) => form.clone()?,
+            None => return Ok(None),
+        };
+        self.symbols = self.symbols.saturating_add(form.len());
+        for (place, symbol) in form.iter().enumerate() {
+            if !grammar.is_token(*symbol) {
+                self.expand(alloc, shortest, grammar, (form.as_slice(), place))?;
+                return Ok(None);
+            }
+        }
+        Ok(Some(form))
+    }
+
+    /// Takes in what a form is where the symbol at a place begins with each of its rules.
+    fn expand(
+        &mut self,
+        alloc: Global,
+        shortest: &Shortest,
+        grammar: &Grammar,
+        (form, place): (&[Sym], usize),
+    ) -> Made<()> {
+        let symbol = form.get(place).copied().unwrap_or(0);
+        for rule in shortest.rules(symbol) {
+            if self.left > 0 {
+                let mut next = Vec::new(alloc);
+                next.extend_from_slice(form.get(..place).unwrap_or(&[]))?;
+                next.extend_from_slice(body_of(grammar, *rule))?;
+                next.extend_from_slice(form.get(place.saturating_add(1)..).unwrap_or(&[]))?;
+                self.add(shortest, next)?;
+            }
+        }
+        Ok(())
+    }
 }
 
 impl Others {
@@ -50,12 +143,25 @@ impl Others {
                 break;
             }
             self.seek(finder, automaton)?;
-            if self.sentences.least().is_none() && self.way.is_none() {
+            let least = self.sentences.queue.least();
+            if least.is_none() && self.way.is_none() {
                 break;
             }
-            let before = self.sentences.symbols();
-            let found = self.look_at_next(finder, automaton)?;
-            finder.spend(self.sentences.symbols().saturating_sub(before));
+            // a way is taken in where no sentence is shorter
+            let is_way = match &self.way {
+                Some((_, length)) => *length <= least.unwrap_or(u64::MAX),
+                None => false,
+            };
+            let (shortest, before) = (&finder.shortest, self.sentences.symbols);
+            let mut found = None;
+            if !is_way {
+                found = self
+                    .sentences
+                    .take(self.alloc, shortest, automaton.grammar())?;
+            } else if let Some((way, _)) = self.way.take() {
+                self.sentences.add(shortest, way)?;
+            }
+            finder.spend(self.sentences.symbols.saturating_sub(before));
             if found.is_some() {
                 return Ok(found);
             }
@@ -63,39 +169,18 @@ impl Others {
         Ok(None)
     }
 
-    /// Takes the next way or form, and gives it where it is a list.
-    fn look_at_next(&mut self, finder: &Finder, automaton: &Automaton) -> Made<Option<Vec<Sym>>> {
-        if self.is_way_next() {
-            if let Some((way, _)) = self.way.take() {
-                self.sentences.add(finder, way)?;
-            }
-            return Ok(None);
-        }
-        self.sentences.take(self.alloc, finder, automaton.grammar())
-    }
-
     /// Seeks the next way, where none is there.
     fn seek(&mut self, finder: &mut Finder, automaton: &Automaton) -> Made<()> {
         if self.way.is_some() || self.done {
             return Ok(());
         }
-        self.way = match finder.next(automaton, &mut self.search)? {
+        match finder.next(automaton, &mut self.search)? {
             Found::Way(way) => {
-                let length = finder.length(&way);
-                Some((way, length))
+                let length = finder.shortest.length_of(&way);
+                self.way = Some((way, length));
             }
-            Found::Nothing | Found::Late => None,
-        };
-        self.done = self.way.is_none();
-        Ok(())
-    }
-
-    /// Whether no sentence is shorter than the next way.
-    fn is_way_next(&self) -> bool {
-        match (&self.way, self.sentences.least()) {
-            (Some((_, length)), Some(least)) => *length <= least,
-            (Some(_), None) => true,
-            (None, _) => false,
+            Found::Nothing | Found::Late => self.done = true,
         }
+        Ok(())
     }
 }

@@ -1,20 +1,20 @@
 //! The loop over command lines.
 
 use crate::edits::{drop_next, insert, save};
+use crate::help::{put_candidates, put_unknown, show_help, verb_of};
+use crate::lines::{Came, LONGEST, next_line};
 use crate::moves::make_move;
+use crate::refusal::{Refusal, misused, put_refusal};
 use crate::reload::reload;
 use crate::text::{put_ahead, put_upcoming};
+use crate::travel::{Move, move_of, name_at_fault};
+use crate::verb::Verb;
 use crate::views::View;
+use crate::words::{Found, first_word};
 use std::alloc::Global;
 use std::io::{self, BufReader, ErrorKind, Read, Write};
 use std::rt::Files;
 use std::str;
-use ycommands::help::{put_candidates, put_unknown, show_help, verb_of};
-use ycommands::lines::{Came, LONGEST, next_line};
-use ycommands::refusal::{Refusal, misused, put_refusal};
-use ycommands::travel::{Move, move_of, name_at_fault};
-use ycommands::verb::Verb;
-use ycommands::words::{Found, first_word};
 use yexplain::reads::{Made, grammar_of};
 use yinput::Parse;
 use yinput::source::Source;

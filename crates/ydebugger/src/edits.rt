@@ -1,11 +1,11 @@
 //! Edits of the upcoming tokens, and the tokens as a file.
 
 use crate::history::put_tokens;
+use crate::refusal::{Refusal, edit_words};
 use crate::views::View;
 use std::alloc::Global;
 use std::io::{self, ErrorKind, Write};
 use std::rt::Files;
-use ycommands::refusal::{Refusal, edit_words};
 use yexplain::reads::Made;
 use yfiles::writing::{write_new, write_over};
 use yinput::Parse;

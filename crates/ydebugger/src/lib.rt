@@ -1,16 +1,25 @@
 //! The debugger: command lines in, what a person wants to see of a parse out.
 //!
-//! `moves` and `edits` change a parse, `views`, `text` and `history` show it, `reload` makes it
-//! anew from its files, and `desk` is the loop over command lines. What is done to a parse goes
-//! through the calls of `Session` alone.
+//! `lines` reads a line, `words` finds a word in a table by a beginning of it and suggests another,
+//! `verb` has the commands, `help` their help, `condition` is what a run stops at, `travel` has
+//! moves, and `refusal` says why a line isn't followed. `moves` and `edits` change a parse, `views`,
+//! `text` and `history` show it, `reload` makes it anew from its files, and `desk` is the loop over
+//! command lines. What is done to a parse goes through the calls of `Session` alone.
 #![tactic(auto)]
 
+mod condition;
 mod desk;
 mod edits;
+mod help;
 mod history;
+mod lines;
 mod moves;
+mod refusal;
 mod reload;
 mod text;
+mod travel;
+mod verb;
 mod views;
+pub mod words;
 
 pub use desk::{Setting, debug};

@@ -1,11 +1,11 @@
 //! Moves: steps forward and back, and to where a condition holds.
 
+use crate::condition::{Condition, put_cell};
+use crate::refusal::fault_words;
 use crate::text::put_ahead;
+use crate::travel::{LAST, Move, tells_each, until_of};
 use std::alloc::Global;
 use std::io::Write;
-use ycommands::condition::{Condition, put_cell};
-use ycommands::refusal::fault_words;
-use ycommands::travel::{LAST, Move, tells_each, until_of};
 use yexplain::reads::Made;
 use yinput::Parse;
 use yparse::machine::{StepFault, StepKind};

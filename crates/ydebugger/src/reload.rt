@@ -1,9 +1,9 @@
 //! Both files again: a new parse, and the steps and edits of the old one in it.
 
+use crate::refusal::{Refusal, fault_words, put_refusal};
 use std::io::{self, Write};
 use std::mem;
 use std::rt::Files;
-use ycommands::refusal::{Refusal, fault_words, put_refusal};
 use yexplain::reads::grammar_of;
 use yinput::Parse;
 use yinput::source::Source;

@@ -18,8 +18,8 @@ pub fn put_ahead<W: Write>(page: &mut Page<W>, parse: &Parse) {
     let session = parse.session();
     let mut numbers = (0..session.view().rest_len()).map(|at| upcoming_token(session, at).1);
     let place = text.place(numbers.find(|number| *number > 0).unwrap_or(0));
-    let (path, (line, column)) = (place.path, place.spot());
-    let _ = writeln!(page, "{path}:{line}:{column}");
+    let (path, spot) = (place.path, place.spot());
+    let _ = writeln!(page, "{path}:{spot}");
     // The page remembers a fault.
     let _ = place.put_text(page, true);
 }

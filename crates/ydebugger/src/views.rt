@@ -1,15 +1,15 @@
 //! Commands that show something.
 
-use crate::history::{SOME_STEPS, put_history};
-use std::alloc::Global;
-use std::io::Write;
-use ycommands::condition::{
+use crate::condition::{
     condition_near, is_digits, number_in, symbol_named, symbol_near, token_named,
 };
-use ycommands::refusal::{Refusal, misused, put_refusal};
-use ycommands::travel::LAST;
-use ycommands::verb::Verb;
-use ycommands::words::first_word;
+use crate::history::{SOME_STEPS, put_history};
+use crate::refusal::{Refusal, misused, put_refusal};
+use crate::travel::LAST;
+use crate::verb::Verb;
+use crate::words::first_word;
+use std::alloc::Global;
+use std::io::Write;
 use ycounterexample::groups::Conflicts;
 use yexplain::reads::{Made, grammar_of};
 use yexplain::sources::sources_of;

@@ -1,16 +1,17 @@
 //! All that is said, as lines or as one document.
 
-use crate::diagnostic::Diagnostic;
 use crate::format::Format;
 use crate::inputs::InputSheet;
 use crate::kinds::KindSheet;
+use crate::sheet::{DiagnosticSheet, sheets_of};
 use serde::Serialize;
 use std::alloc::Global;
 use std::io::{self, ErrorKind, Write};
+use yfiles::diagnostic::Diagnostics;
 use ysymbols::let_go;
 
 /// The version of the document.
-pub const VERSION: usize = 1;
+const VERSION: usize = 1;
 
 /// The conflicts of a grammar.
 #[derive(Serialize)]
@@ -37,11 +38,28 @@ impl Drop for ConflictSheet {
     }
 }
 
-/// All that is said: the document.
+/// The document.
 #[derive(Clone, Copy, Serialize)]
-pub struct Said<'a> {
+struct Document<'a> {
     /// The version of the document.
-    pub version: usize,
+    version: usize,
+    /// The form of the command line.
+    form: &'static str,
+    /// The path of the grammar file.
+    grammar: &'a str,
+    /// The exit status.
+    status: u8,
+    /// What is said of places.
+    diagnostics: &'a [DiagnosticSheet],
+    /// The conflicts, where they were asked for and the grammar is open.
+    conflicts: Option<&'a ConflictSheet>,
+    /// The verdicts, likewise.
+    inputs: Option<&'a [InputSheet]>,
+}
+
+/// All that is said.
+#[derive(Clone, Copy)]
+pub struct Said<'a> {
     /// The form of the command line.
     pub form: &'static str,
     /// The path of the grammar file.
@@ -49,7 +67,7 @@ pub struct Said<'a> {
     /// The exit status.
     pub status: u8,
     /// What is said of places.
-    pub diagnostics: &'a [Diagnostic],
+    pub told: &'a Diagnostics,
     /// The conflicts, where they were asked for and the grammar is open.
     pub conflicts: Option<&'a ConflictSheet>,
     /// The verdicts, likewise.
@@ -57,26 +75,31 @@ pub struct Said<'a> {
 }
 
 impl Said<'_> {
-    /// Writes a document and a newline.
-    fn put_json<W: Write>(self, alloc: Global, out: &mut W) -> io::Result<()> {
-        match serde_json::to_vec(alloc, &self) {
+    /// Writes it, and gives the exit status.
+    pub fn put<W: Write>(self, alloc: Global, out: &mut W, format: Format) -> io::Result<u8> {
+        let sheets = sheets_of(alloc, self.told)?;
+        if format != Format::Json {
+            for sheet in &sheets {
+                sheet.put(out)?;
+            }
+            return Ok(self.status);
+        }
+        let document = Document {
+            version: VERSION,
+            form: self.form,
+            grammar: self.grammar,
+            status: self.status,
+            diagnostics: &sheets,
+            conflicts: self.conflicts,
+            inputs: self.inputs,
+        };
+        match serde_json::to_vec(alloc, &document) {
             Ok(json) => {
                 out.write_all(&json)?;
-                out.write_all(b"\n")
+                out.write_all(b"\n")?;
+                Ok(self.status)
             }
             Err(_) => Err(io::Error::from(ErrorKind::OutOfMemory)),
         }
-    }
-
-    /// Writes it, and gives the exit status.
-    pub fn put<W: Write>(self, alloc: Global, out: &mut W, format: Format) -> io::Result<u8> {
-        if format == Format::Json {
-            self.put_json(alloc, out)?;
-            return Ok(self.status);
-        }
-        for diagnostic in self.diagnostics {
-            diagnostic.put(out)?;
-        }
-        Ok(self.status)
     }
 }

@@ -1,14 +1,13 @@
 //! Verdicts on inputs.
 
-use crate::diagnostic::{Diagnostic, Severity};
 use crate::kinds::names_of;
-use crate::told::About;
 use serde::Serialize;
 use std::alloc::Global;
 use std::io;
 use yexplain::reads::Made;
 use yfaults::opening::word_place;
-use yfaults::shown::Place;
+use yfiles::diagnostic::Diagnostics;
+use yfiles::place::{Place, Spot};
 use yinput::language::Input;
 use yinput::spelled::Spoken;
 use yinput::verdict::{Rejection, Verdict};
@@ -35,17 +34,6 @@ impl Drop for InputSheet {
     fn drop(self) {
         let_go!(self: InputSheet { file, verdict, steps, number, token, expected, unknown });
     }
-}
-
-/// What is said of an input: its sheet, its diagnostics, and the exit status.
-#[derive(Drop)]
-pub struct Judged {
-    /// The sheet.
-    pub sheet: InputSheet,
-    /// The diagnostics; none where it is accepted.
-    pub diagnostics: Vec<Diagnostic>,
-    /// The exit status where nothing else is said.
-    pub status: u8,
 }
 
 /// The word for a verdict.
@@ -93,53 +81,34 @@ impl InputSheet {
     }
 }
 
-/// Gives a diagnostic the place of a token in its tokens file.
-fn give_place(diagnostics: &mut [Diagnostic], (path, source): (&str, &[u8]), number: usize) {
+/// The place of a token in its tokens file.
+fn spot_of(path: &str, source: &[u8], number: usize) -> Spot {
     let at = word_place(source, number).unwrap_or(source.len());
-    let (line, column) = Place { path, source, at }.spot();
-    if let Some(first) = diagnostics.first_mut() {
-        first.line = Some(line);
-        first.column = Some(column);
-    }
+    Place { path, source, at }.spot()
 }
 
-/// What is said of an input of these bytes, with a message for its error, where there is one.
+/// What is said of an input of these bytes, with a message for its error, where there is one, and
+/// the exit status where nothing else is said.
 pub fn answer_of(
     alloc: Global,
+    told: &mut Diagnostics,
     spoken: Spoken<'_>,
     (path, source): (&str, &[u8]),
     (input, verdict): (&Input, &Verdict),
     message: Option<&[u8]>,
-) -> io::Result<Judged> {
-    let mut told = Vec::new(alloc);
-    let status = verdict.put(&mut told, spoken, path, input, message)?;
-    let about = About {
-        paths: &[path],
-        severity: Severity::Error,
+) -> io::Result<(InputSheet, u8)> {
+    let sheet = InputSheet::of(alloc, spoken.grammar, path, verdict)?;
+    let Some(mut one) = verdict.diagnostic(alloc, spoken, path, input, message)? else {
+        return Ok((sheet, 0));
     };
-    let mut diagnostics = Vec::new(alloc);
-    if status > 0 {
-        diagnostics = about.take(alloc, &told)?;
-    }
     if let (Verdict::Rejected(rejection), None) = (verdict, &input.text) {
-        give_place(&mut diagnostics, (path, source), rejection.number);
+        one.spot = Some(spot_of(path, source, rejection.number));
     }
-    Ok(Judged {
-        sheet: InputSheet::of(alloc, spoken.grammar, path, verdict)?,
-        diagnostics,
-        status,
-    })
+    told.add(one)?;
+    Ok((sheet, 1))
 }
 
-/// What is said of an input that has no verdict, for this reason, as it is written for people.
-pub fn refused(alloc: Global, path: &str, told: &[u8], status: u8) -> io::Result<Judged> {
-    let about = About {
-        paths: &[path],
-        severity: Severity::Error,
-    };
-    Ok(Judged {
-        sheet: InputSheet::new(alloc, path, "refused")?,
-        diagnostics: about.take(alloc, told)?,
-        status,
-    })
+/// What comes of an input that has no verdict.
+pub fn refused(alloc: Global, path: &str) -> Made<InputSheet> {
+    InputSheet::new(alloc, path, "refused")
 }

@@ -1,16 +1,15 @@
 //! Conflicts, each kind with its rules and with lists of tokens that get there.
 
-use crate::diagnostic::{Diagnostic, Severity};
 use serde::Serialize;
 use std::alloc::{AllocError, Global};
 use std::io::{self, Write};
-use std::str;
 use ycounterexample::finding::{Allows, Finding, List, Seeker};
 use ycounterexample::groups::{Conflicts, Group, Kind};
 use ycounterexample::trial::Trial;
 use yexplain::lines::Lines;
 use yexplain::reads::{Made, grammar_of};
 use yexplain::text::{Name, RuleText};
+use yfiles::diagnostic::{Diagnostic, Diagnostics, Severity};
 use yparse::Session;
 use ysymbols::{Grammar, Sym, let_go};
 
@@ -226,18 +225,6 @@ fn put_taken<W: Write>(
     }
 }
 
-/// What is said of a kind.
-fn message_of(alloc: Global, grammar: &Grammar, cells: (&Kind, Group)) -> io::Result<String> {
-    let mut text = Vec::new(alloc);
-    put_taken(&mut text, grammar, cells)?;
-    for (place, rule) in cells.0.others().iter().enumerate() {
-        let front = if place == 0 { ", not" } else { " nor" };
-        let shown = RuleText(grammar, *rule);
-        write!(text, "{front} rule {rule} ({shown})")?;
-    }
-    Ok(String::from_str(alloc, str::from_utf8(&text).unwrap_or(""))?)
-}
-
 impl Shown<'_> {
     /// A kind as what is said of the first rule that isn't taken.
     fn diagnostic(
@@ -246,23 +233,29 @@ impl Shown<'_> {
         grammar: &Grammar,
         cells: (&Kind, Group),
     ) -> io::Result<Diagnostic> {
-        let (spot, path) = (cells.0.spot(self.lines), Some(self.path));
-        let message = message_of(alloc, grammar, cells)?;
-        Ok(Diagnostic::new(alloc, path, spot, self.severity, message)?)
+        let spot = cells.0.spot(self.lines);
+        let mut one = Diagnostic::new(alloc, Some(self.path), spot)?;
+        one.severity = self.severity;
+        put_taken(&mut one.message, grammar, cells)?;
+        for (place, rule) in cells.0.others().iter().enumerate() {
+            let front = if place == 0 { ", not" } else { " nor" };
+            let shown = RuleText(grammar, *rule);
+            write!(one.message, "{front} rule {rule} ({shown})")?;
+        }
+        Ok(one)
     }
 
-    /// The kinds likewise, in the order of their states.
-    pub fn diagnostics(
+    /// Tells the kinds likewise, in the order of their states.
+    pub fn add_told(
         self,
         alloc: Global,
+        told: &mut Diagnostics,
         grammar: &Grammar,
         found: &Conflicts,
-    ) -> io::Result<Vec<Diagnostic>> {
-        let mut diagnostics = Vec::new(alloc);
+    ) -> io::Result<()> {
         for (kind, group) in &found.groups {
-            let diagnostic = self.diagnostic(alloc, grammar, (kind, *group))?;
-            diagnostics.push(diagnostic).map_err(AllocError::from)?;
+            told.add(self.diagnostic(alloc, grammar, (kind, *group))?)?;
         }
-        Ok(diagnostics)
+        Ok(())
     }
 }

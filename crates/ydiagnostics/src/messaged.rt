@@ -1,8 +1,9 @@
 //! A language with the messages for its errors.
 
 use std::alloc::Global;
-use std::io::{self, Write};
+use std::io;
 use std::rt::Files;
+use yfiles::diagnostic::Diagnostics;
 use yfiles::reading::Limited;
 use yinput::language::{Input, Language, LanguageFiles};
 use yinput::verdict::Verdict;
@@ -17,39 +18,28 @@ pub struct Messaged {
     messages: Option<Messages>,
 }
 
-/// A language with the messages of a file, where one is given. Where that is refused, that is
-/// written, and the exit status is the answer.
-fn with_messages<F: Files + AllocGlobal, E: Write>(
-    rt: &F,
-    language: Language,
-    (file, columns): (Option<Limited<'_>>, bool),
-    errors: &mut E,
-) -> io::Result<Result<Messaged, u8>> {
-    let Some(file) = file else {
-        let messages = None;
-        return Ok(Ok(Messaged { language, messages }));
-    };
-    match Messages::open_for(rt, &language, (file, columns), errors)? {
-        Ok(messages) => {
-            let messages = Some(messages);
-            Ok(Ok(Messaged { language, messages }))
-        }
-        Err(status) => Ok(Err(status)),
-    }
-}
-
 impl Messaged {
     /// Opens the files of a language, and one of messages, where it is given. Where one is refused,
-    /// that is written, and the exit status is the answer.
-    pub fn open<F: Files + AllocGlobal, E: Write>(
+    /// that is said, and the exit status is the answer.
+    pub fn open<F: Files + AllocGlobal>(
         rt: &F,
         files: LanguageFiles<'_>,
         messages: Option<Limited<'_>>,
-        errors: &mut E,
+        told: &mut Diagnostics,
     ) -> io::Result<Result<Messaged, u8>> {
-        let told = (messages, files.grammar.columns);
-        match Language::open(rt, files, errors)? {
-            Ok(language) => with_messages(rt, language, told, errors),
+        let language = match Language::open_told(rt, files, told)? {
+            Ok(language) => language,
+            Err(status) => return Ok(Err(status)),
+        };
+        let Some(file) = messages else {
+            let messages = None;
+            return Ok(Ok(Messaged { language, messages }));
+        };
+        match Messages::open_for(rt, &language, file, told)? {
+            Ok(messages) => {
+                let messages = Some(messages);
+                Ok(Ok(Messaged { language, messages }))
+            }
             Err(status) => Ok(Err(status)),
         }
     }

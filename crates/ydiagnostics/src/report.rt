@@ -1,24 +1,21 @@
 //! `ydebug conflicts` for programs.
 
-use crate::diagnostic::{Diagnostic, Severity};
-use crate::document::{ConflictSheet, Said, VERSION};
+use crate::document::{ConflictSheet, Said};
 use crate::format::Format;
 use crate::kinds::Shown;
-use crate::told::{About, add_all};
 use std::alloc::Global;
 use std::io::{self, Write};
 use std::rt::Files;
-use yaccepted::conflict::Conflict;
 use yaccepted::expected::Counts;
-use yaccepted::judged::{self, Judged, Listed, judge};
+use yaccepted::judged::{self, Judged, Telling, judge};
 use yaccepted::opening::{Counted, File, open_counted};
 use ycounterexample::groups::Conflicts;
-use ycounterexample::trial::empty_session;
-use yexplain::reads::{Made, grammar_of};
-use yexplain::text::Bytes;
+use yexplain::reads::grammar_of;
 use yfaults::opening::Opened;
+use yfiles::diagnostic::{Diagnostics, Severity};
 use yparse::Session;
 use yreports::warnings::warnings_of;
+use ysearch::trial::empty_session;
 
 /// What is asked for.
 #[derive(Clone, Copy)]
@@ -51,99 +48,32 @@ impl<'a> Asked<'a> {
             _ => self.severity(),
         }
     }
-
-    /// What lines for people say of the files.
-    fn told(self, alloc: Global, text: &[u8], severity: Severity) -> io::Result<Vec<Diagnostic>> {
-        let grammar = self.file.path;
-        let paths = [grammar, self.accepted.accept.unwrap_or(grammar)];
-        let about = About {
-            paths: &paths,
-            severity,
-        };
-        about.take(alloc, text)
-    }
 }
 
 /// What is said, with this exit status and without conflicts.
-fn said<'a>(asked: Asked<'a>, status: u8, diagnostics: &'a [Diagnostic]) -> Said<'a> {
+fn said<'a>(asked: Asked<'a>, status: u8, told: &'a Diagnostics) -> Said<'a> {
     Said {
-        version: VERSION,
         form: "conflicts",
         grammar: asked.file.path,
         status,
-        diagnostics,
+        told,
         conflicts: None,
         inputs: None,
     }
 }
 
-/// A conflict that a list hasn't, or that the grammar hasn't any more.
-fn listed_diagnostic(
-    alloc: Global,
-    path: &str,
-    (front, severity): (&str, Severity),
-    conflict: &Conflict,
-) -> Made<Diagnostic> {
-    let spot = Some(conflict.spot);
-    let token = Bytes(&conflict.token);
-    let message = format!(in alloc; "{front}conflict on {token}")?;
-    let mut diagnostic = Diagnostic::new(alloc, Some(path), spot, severity, message)?;
-    for item in [&conflict.taken, &conflict.other] {
-        let item = Bytes(item);
-        diagnostic.notes.push(format!(in alloc; "{item}")?)?;
-    }
-    Ok(diagnostic)
-}
-
-/// Adds conflicts that a list hasn't, or that the grammar hasn't any more.
-fn add_conflicts(
-    alloc: Global,
-    all: &mut Vec<Diagnostic>,
-    path: &str,
-    front: (&str, Severity),
-    conflicts: &[Conflict],
-) -> Made<()> {
-    for conflict in conflicts {
-        all.push(listed_diagnostic(alloc, path, front, conflict)?)?;
-    }
-    Ok(())
-}
-
-/// Adds what a list comes to.
-fn add_listed(
-    alloc: Global,
-    all: &mut Vec<Diagnostic>,
-    asked: Asked<'_>,
-    listed: &Listed,
-) -> Made<()> {
-    let grammar = asked.file.path;
-    let list = asked.accepted.accept.unwrap_or(grammar);
-    if listed.is_updated {
-        return Ok(());
-    }
-    add_conflicts(alloc, all, grammar, ("new ", asked.severity()), &listed.new)?;
-    add_conflicts(
-        alloc,
-        all,
-        list,
-        ("gone: ", Severity::Warning),
-        &listed.gone,
-    )
-}
-
-/// Adds the warnings, and says whether there are some.
+/// Tells the warnings, and says whether there are some.
 fn add_warnings(
     alloc: Global,
-    all: &mut Vec<Diagnostic>,
+    told: &mut Diagnostics,
     asked: Asked<'_>,
     opened: &Opened,
-) -> Made<bool> {
-    let warnings = warnings_of(alloc, &opened.tables, &opened.lines)?;
-    for warning in &warnings {
-        let (path, spot, message) = (Some(asked.file.path), warning.spot, warning.text.clone()?);
-        all.push(Diagnostic::new(alloc, path, spot, asked.severity(), message)?)?;
-    }
-    Ok(!warnings.is_empty())
+) -> io::Result<bool> {
+    let before = told.all.len();
+    let warnings = warnings_of(alloc, asked.file.path, &opened.tables, &opened.lines)?;
+    told.take(warnings)?;
+    told.judge(before, asked.severity());
+    Ok(told.all.len() > before)
 }
 
 /// The conflicts of a session without tokens.
@@ -200,11 +130,10 @@ fn status_of(strict: bool, accepted: Option<bool>, has_conflicts: bool, is_warne
     }
 }
 
-/// Adds what is said of conflicts and of what else deserves a warning, and says whether something
-/// does.
+/// Tells conflicts and what else deserves a warning, and says whether something does.
 fn add_found(
     alloc: Global,
-    all: &mut Vec<Diagnostic>,
+    told: &mut Diagnostics,
     (asked, severity): (Asked<'_>, Severity),
     opened: &Opened,
     found: &Conflicts,
@@ -214,74 +143,60 @@ fn add_found(
         path: asked.file.path,
         severity,
     };
-    let grammar = grammar_of(&opened.tables);
-    let conflicts = shown.diagnostics(alloc, grammar, found)?;
-    add_all(all, conflicts)?;
-    Ok(add_warnings(alloc, all, asked, opened)?)
+    shown.add_told(alloc, told, grammar_of(&opened.tables), found)?;
+    add_warnings(alloc, told, asked, opened)
 }
 
-/// Writes what is said of a grammar whose conflicts are judged, and gives the exit status.
+/// Writes what is said of a grammar whose conflicts are judged, after what was told of its files,
+/// and gives the exit status.
 fn put_judged<W: Write>(
     alloc: Global,
     asked: Asked<'_>,
     opened: Opened,
     judged: &Judged,
-    diagnostics: Vec<Diagnostic>,
+    mut told: Diagnostics,
     out: &mut W,
 ) -> io::Result<u8> {
-    let mut diagnostics = diagnostics;
     if let Some(listed) = &judged.listed {
-        add_listed(alloc, &mut diagnostics, asked, listed)?;
+        let grammar = asked.file.path;
+        let telling = Telling {
+            paths: (grammar, asked.accepted.accept.unwrap_or(grammar)),
+            severity: asked.severity(),
+            is_whole: true,
+        };
+        listed.add_told(alloc, &mut told, telling)?;
     }
     let found = Conflicts::new(alloc, &opened.tables)?;
     let (accepted, severity) = (judged.is_accepted(), asked.conflict_severity(judged));
-    let is_warned = add_found(alloc, &mut diagnostics, (asked, severity), &opened, &found)?;
+    let is_warned = add_found(alloc, &mut told, (asked, severity), &opened, &found)?;
     let status = status_of(asked.strict, accepted, found.cells > 0, is_warned);
     let sheet = sheet_in(alloc, asked, opened, &found, accepted)?;
-    let mut all = said(asked, status, &diagnostics);
+    let mut all = said(asked, status, &told);
     all.conflicts = sheet.as_ref();
     all.put(alloc, out, asked.format)
 }
 
-/// What is said of a grammar's files beside its conflicts: notes on an import, and numbers of
-/// conflicts that aren't the expected ones.
-fn told_of(
-    alloc: Global,
-    asked: Asked<'_>,
-    judged: &Judged,
-    (notes, numbers): (&[u8], &[u8]),
-) -> io::Result<Vec<Diagnostic>> {
-    // an import tells of its directives
-    let severity = if judged.expected == Some(false) {
-        asked.severity()
-    } else {
-        Severity::Warning
-    };
-    let mut told = asked.told(alloc, notes, severity)?;
-    add_all(&mut told, asked.told(alloc, numbers, asked.severity())?)?;
-    Ok(told)
-}
-
-/// Judges the conflicts of a grammar that is open, writes what is said, and gives the exit status.
+/// Judges the conflicts of a grammar that is open, writes what is said, after what was told of its
+/// files, and gives the exit status.
 fn put_counted<F: Files + AllocGlobal, W: Write>(
     rt: &F,
     asked: Asked<'_>,
     counted: Counted,
-    notes: &[u8],
+    mut told: Diagnostics,
     out: &mut W,
 ) -> io::Result<u8> {
-    let alloc = rt.alloc();
-    let mut numbers = Vec::new(alloc);
-    let judged = judge(rt, asked.accepted, &counted, &mut numbers)?;
-    match judged {
+    let (alloc, before) = (rt.alloc(), told.all.len());
+    match judge(rt, asked.accepted, &counted, &mut told)? {
         Ok(judged) => {
-            let told = told_of(alloc, asked, &judged, (notes, &numbers))?;
+            if judged.expected == Some(false) {
+                // an import tells of its directives
+                told.judge(0, asked.severity());
+            }
             let Counted { opened, .. } = counted;
             put_judged(alloc, asked, opened, &judged, told, out)
         }
         Err(status) => {
-            let mut told = asked.told(alloc, notes, Severity::Warning)?;
-            add_all(&mut told, asked.told(alloc, &numbers, Severity::Error)?)?;
+            told.judge(before, Severity::Error);
             said(asked, status, &told).put(alloc, out, asked.format)
         }
     }
@@ -294,13 +209,12 @@ pub fn run_report<F: Files + AllocGlobal, W: Write>(
     asked: Asked<'_>,
     out: &mut W,
 ) -> io::Result<u8> {
-    let mut told = Vec::new(rt.alloc());
-    let opened = open_counted(rt, asked.file, &mut told)?;
-    match opened {
-        Ok(counted) => put_counted(rt, asked, counted, &told, out),
+    let mut told = Diagnostics::new(rt.alloc());
+    match open_counted(rt, asked.file, &mut told)? {
+        Ok(counted) => put_counted(rt, asked, counted, told, out),
         Err(status) => {
-            let diagnostics = asked.told(rt.alloc(), &told, Severity::Error)?;
-            said(asked, status, &diagnostics).put(rt.alloc(), out, asked.format)
+            told.judge(0, Severity::Error);
+            said(asked, status, &told).put(rt.alloc(), out, asked.format)
         }
     }
 }

@@ -4,13 +4,16 @@ use Rattle.ygenerate.specs.Sources.{AreTablesOf}
 use Rattle.ytables.specs.Tables.{TablesValue}
 use Rattle.ycode.specs.declared.code.Code.{Code}
 use Rattle.ycode.specs.Reads.{IsCode}
+use Rattle.ycode.specs.Whole.{code_for}
 use Rattle.yembed.specs.declared.codes.Sizes.{Sizes}
 
--- these are the arrays of the parser by the tables of the grammar that these bytes mean
+-- these are the arrays of the parser by the tables of the grammar that these bytes mean: those that
+-- the definition has for these tables, and they say what the tables say
 pub record IsCodeOf (grammar : List ℕ) (code : Code) : Type 0 where
   pub tables : TablesValue
   pub are : AreTablesOf grammar tables
   pub says : IsCode tables code
+  pub value : code ≡ code_for tables
 
 -- the numbers are those of the array with this number; there are 14
 pub record IsArrayOf (code : Code) (array : ℕ) (list : List ℕ) : Type 0 where

@@ -5,10 +5,10 @@ use Rattle.ytables.specs.Tables.{TablesValue}
 use Rattle.ytokens.specs.Reading.{TokensOf}
 use Rattle.ymachine.specs.Headline.{IsMachineOf}
 use Rattle.ymachine.specs.MachineOver.{machine_over}
-use Rattle.yjudge.specs.Sentences.{IsAnswered, IsExactOf, IsSoundOf}
-use Rattle.yjudge.specs.Verdict.{IsVerdict}
-use Rattle.yjudge.specs.declared.verdict.Verdict.{Verdict}
-use Rattle.yjudge.specs.declared.verdict.Verdict.TheVariants.{Accepted, Rejected, Limit}
+use Rattle.ysession.specs.Sentences.{IsAnswered, IsExactOf, IsSoundOf}
+use Rattle.ysession.specs.Verdict.{IsVerdict}
+use Rattle.ysession.specs.declared.verdict.Verdict.{Verdict}
+use Rattle.ysession.specs.declared.verdict.Verdict.TheVariants.{Accepted, Rejected, Limit}
 use Rattle.yembed.specs.declared.verdicts.Judged.{Judged}
 
 -- these are the tokens that the text means by the grammar of these bytes

@@ -8,7 +8,7 @@ ghost use Rattle.yembed.specs.Verdicts.{AreTokens, IsJudged, Tells};
 use crate::refusal::Refusal;
 use crate::sources::tables_of;
 use std::alloc::Global;
-use yjudge::{Verdict, judge};
+use ysession::{Verdict, judge};
 use ytokens::{Tokens, read_tokens};
 
 /// The verdict on tokens.

@@ -1,9 +1,8 @@
 //! The errors of all states.
 
-use crate::confirm::{Confirmed, Left, confirm};
-use crate::detected::Detected;
-use crate::lists::MOST_TOKENS;
+use crate::confirm::{Confirmed, confirm, reductions};
 pub use crate::rows::MOST_STEPS;
+use crate::rows::Part;
 use crate::search::{Search, can_stand};
 use crate::ways::Ways;
 use std::alloc::{AllocError, Global};
@@ -13,6 +12,12 @@ use ylalr::token_count;
 use yparse::Session;
 use ysymbols::{Sym, let_go};
 use ytables::{Action, Tables};
+
+/// The most parts that are opened for one list.
+const MOST_PARTS: usize = 1_000_000;
+
+/// The most tokens of a list that is written out.
+const MOST_TOKENS: u64 = 1_000;
 
 /// Why there is no list for a state.
 #[derive(Clone, Copy, Drop, PartialEq, Eq)]
@@ -79,20 +84,55 @@ enum Sought {
     Without(Reason),
 }
 
-/// Whether a state has an error at some token of an input, which has none that is marked.
-fn has_error(tables: &Tables, absent: &[bool], state: usize) -> bool {
-    let mut tokens = 0..token_count(grammar_of(tables));
-    tokens.any(|token| {
-        can_stand(absent, token) && action_of(tables, state, token) == Action::Error
-    })
+impl Part {
+    /// The part, with the token that is ahead after it.
+    fn with(self, token: Sym) -> Part {
+        match self {
+            Part::Last(row) => Part::Row(row, token),
+            _ => self,
+        }
+    }
+}
+
+impl Search<'_> {
+    /// A shortest list of tokens after which a state has a token ahead; none where the search has
+    /// none, or writing it out takes too many parts.
+    pub fn list(&self, alloc: Global, state: usize, token: Sym) -> Made<Option<Vec<Sym>>> {
+        let Some(row) = self.row(state) else {
+            return Ok(None);
+        };
+        // the parts that are still to come, the last one first
+        let (mut tokens, mut parts) = (Vec::new(alloc), Vec::new(alloc));
+        parts.push(Part::Row(row, token))?;
+        for _ in 0..MOST_PARTS {
+            match parts.pop() {
+                None => return Ok(Some(tokens)),
+                Some(Part::Nothing) => {}
+                Some(Part::Token(token)) => tokens.push(token)?,
+                Some(Part::Row(row, token)) => {
+                    let Some(taken) = self.rows.taken(row, token) else {
+                        break;
+                    };
+                    parts.push(taken.second.with(token))?;
+                    parts.push(taken.first.with(token))?;
+                }
+                Some(Part::Last(_)) => break,
+            }
+        }
+        Ok(None)
+    }
 }
 
 /// Why a search has nothing for a state.
 fn reason_of(search: &Search<'_>, absent: &[bool], state: usize, is_done: bool) -> Reason {
-    let tables = search.ways.tables;
+    let (tables, mut has_error) = (search.ways.tables, false);
+    for token in 0..token_count(grammar_of(tables)) {
+        let is_error = action_of(tables, state, token) == Action::Error;
+        has_error = has_error || (is_error && can_stand(absent, token));
+    }
     if default_of(tables, state).is_some() {
         Reason::Reduces
-    } else if !has_error(tables, absent, state) {
+    } else if !has_error {
         Reason::TakesAll
     } else if !is_done {
         Reason::Late
@@ -100,17 +140,6 @@ fn reason_of(search: &Search<'_>, absent: &[bool], state: usize, is_done: bool) 
         Reason::Before
     } else {
         Reason::After
-    }
-}
-
-/// The list of tokens that a search has for an error of a state.
-fn list_of(alloc: Global, search: &Search<'_>, state: usize, detected: Detected) -> Made<Sought> {
-    if detected.cost > MOST_TOKENS {
-        return Ok(Sought::Without(Reason::Long));
-    }
-    match search.list(alloc, state, detected.token)? {
-        Some(tokens) => Ok(Sought::List(tokens, detected.token)),
-        None => Ok(Sought::Without(Reason::Long)),
     }
 }
 
@@ -122,50 +151,47 @@ fn seek(alloc: Global, tables: &Tables, absent: &[bool]) -> Made<Vec<Sought>> {
     let mut found = Vec::new(alloc);
     for state in (0..tables.automaton().states()).rev() {
         let sought = match search.detected(state) {
-            Some(detected) => list_of(alloc, &search, state, detected)?,
             None => Sought::Without(reason_of(&search, absent, state, is_done)),
+            Some(detected) if detected.cost > MOST_TOKENS => Sought::Without(Reason::Long),
+            Some(detected) => match search.list(alloc, state, detected.token)? {
+                Some(tokens) => Sought::List(tokens, detected.token),
+                None => Sought::Without(Reason::Long),
+            },
         };
         found.push(sought)?;
     }
     Ok(found)
 }
 
-/// What comes of a list in a session; one that it doesn't confirm counts as not found.
-fn outcome_of(
-    alloc: Global,
-    session: &mut Session,
-    state: usize,
-    sought: Sought,
-    left: &mut Left,
-) -> io::Result<Outcome> {
-    match sought {
-        Sought::Without(reason) => Ok(Outcome::Without(reason)),
-        Sought::List(tokens, last) => match confirm(alloc, session, (tokens, last), state, left)? {
-            Some(confirmed) => Ok(Outcome::List(confirmed)),
-            None => Ok(Outcome::Without(Reason::Late)),
-        },
-    }
-}
-
 impl Errors {
     /// The errors of all states of a session's tables, by inputs without the tokens that are
     /// marked. The session is at its start, without tokens, and is left there.
     pub fn new(alloc: Global, session: &mut Session, absent: &[bool]) -> io::Result<Errors> {
-        let mut outcomes = Vec::new(alloc);
-        let mut left = Left::all();
+        let (mut outcomes, mut left) = (Vec::new(alloc), reductions());
         let mut found = seek(alloc, session.tables(), absent)?;
         for state in 0..found.len() {
-            if let Some(sought) = found.pop() {
-                let outcome = outcome_of(alloc, session, state, sought, &mut left)?;
-                outcomes.push(outcome).map_err(AllocError::from)?;
-            }
+            let outcome = match found.pop() {
+                None => break,
+                Some(Sought::Without(reason)) => Outcome::Without(reason),
+                Some(Sought::List(tokens, last)) => {
+                    match confirm(alloc, session, (tokens, last), state, &mut left)? {
+                        Some(confirmed) => Outcome::List(confirmed),
+                        // one that the session doesn't confirm counts as not found
+                        None => Outcome::Without(Reason::Late),
+                    }
+                }
+            };
+            outcomes.push(outcome).map_err(AllocError::from)?;
         }
         Ok(Errors { outcomes })
     }
 
     /// How many states have a list.
     pub fn count(&self) -> usize {
-        let outcomes = self.outcomes.iter();
-        outcomes.filter(|outcome| outcome.list().is_some()).count()
+        let mut count: usize = 0;
+        for outcome in &self.outcomes {
+            count = count.saturating_add(usize::from(outcome.list().is_some()));
+        }
+        count
     }
 }

@@ -1,11 +1,11 @@
 //! What is found, in rows: the tokens that can be ahead after a spot, by how many tokens it takes.
 
 use crate::sets::{Known, Sets, Source};
-use indexmap::{IndexMap, IndexSet};
+use indexmap::IndexSet;
 use std::alloc::Global;
-use ycounterexample::queue::Queue;
 use yexplain::reads::Made;
 use ylalr::Item;
+use ysearch::queue::{FAR, Queue};
 use ysymbols::{Sym, let_go};
 
 /// The most steps of a search: words of sets that are made, and rows that are looked at.
@@ -31,8 +31,8 @@ pub enum Spot {
     Rest(usize, Item),
 }
 
-/// A row: a spot, and the token that was ahead before it, where that matters.
-#[derive(Clone, Copy, Drop)]
+/// What a row is of: a spot, and the token that was ahead before it, where that matters.
+#[derive(Clone, Copy, Drop, PartialEq, Eq, Hash)]
 pub struct Key {
     /// The spot.
     pub spot: Spot,
@@ -62,15 +62,11 @@ pub struct Taken {
     pub second: Part,
 }
 
-impl Taken {
-    /// Nothing is taken.
-    pub fn nothing() -> Taken {
-        Taken {
-            first: Part::Nothing,
-            second: Part::Nothing,
-        }
-    }
-}
+/// Nothing is taken.
+pub const NOTHING: Taken = Taken {
+    first: Part::Nothing,
+    second: Part::Nothing,
+};
 
 /// The tokens that come to be ahead in a row after the same number of tokens.
 #[derive(Clone, Copy, Drop)]
@@ -89,41 +85,15 @@ struct Origin {
     taken: Taken,
 }
 
-/// What waits to come into a row, or has waited.
-#[derive(Clone, Copy, Drop)]
-struct Waiting {
-    level: Level,
-    waits: bool,
-}
-
 /// A row.
 #[derive(Drop)]
 struct Row {
-    key: Key,
     /// The set of the tokens that its levels have.
     known: usize,
     levels: Vec<Level>,
-    /// What waits, once for each number of tokens before it.
-    waiting: Vec<Waiting>,
+    /// What waits, once for each number of tokens before it, which is `FAR` once it has come in.
+    waiting: Vec<Level>,
     origins: Vec<Origin>,
-}
-
-impl Row {
-    /// The set that waits with so many tokens before it.
-    fn set_that_waits(&self, cost: u64) -> Option<usize> {
-        let mut waiting = self.waiting.iter();
-        let found = waiting.find(|it| it.waits && it.level.cost == cost);
-        found.map(|it| it.level.at)
-    }
-
-    /// What waits with so many tokens before it waits no more.
-    fn end_waiting(&mut self, cost: u64) {
-        for it in self.waiting.iter_mut() {
-            if it.level.cost == cost {
-                it.waits = false;
-            }
-        }
-    }
 }
 
 /// All rows, and in which order what waits is taken.
@@ -134,11 +104,11 @@ pub struct Rows {
     spots: IndexSet<Spot>,
     /// The rows of each spot.
     of_spots: Vec<Vec<usize>>,
-    /// The row of a spot and of the token before it; where none matters, of the greatest number.
-    numbers: IndexMap<(usize, usize), usize>,
+    /// What each row is of.
+    keys: IndexSet<Key>,
     rows: Vec<Row>,
-    /// The row in which something waits, and with how many tokens before it.
-    waiting: Vec<(usize, u64)>,
+    /// The rows in which something waits or has waited, and what.
+    waiting: Vec<(usize, Level)>,
     queue: Queue,
     steps: usize,
     words: usize,
@@ -148,14 +118,21 @@ impl Drop for Rows {
     // A call in each owner, which keeps their proofs short.
     fn drop(self) {
         let_go!(self: Rows {
-            alloc, sets, spots, of_spots, numbers, rows, waiting, queue, steps, words
+            alloc, sets, spots, of_spots, keys, rows, waiting, queue, steps, words
         });
     }
 }
 
-/// The number that stands for a token, or for none.
-fn number_of(first: Option<Sym>) -> usize {
-    first.unwrap_or(usize::MAX)
+impl Row {
+    /// The set that waits with so many tokens before it.
+    fn set_that_waits(&self, cost: u64) -> Option<usize> {
+        for level in &self.waiting {
+            if level.cost == cost {
+                return Some(level.at);
+            }
+        }
+        None
+    }
 }
 
 impl Rows {
@@ -166,7 +143,7 @@ impl Rows {
             sets: Sets::new(alloc, tokens),
             spots: IndexSet::new(alloc),
             of_spots: Vec::new(alloc),
-            numbers: IndexMap::new(alloc),
+            keys: IndexSet::new(alloc),
             rows: Vec::new(alloc),
             waiting: Vec::new(alloc),
             queue: Queue::new(alloc),
@@ -193,7 +170,7 @@ impl Rows {
 
     /// Makes an empty set.
     pub fn make_set(&mut self) -> Made<usize> {
-        let width = self.sets.width();
+        let width = self.sets.width;
         self.keep(width);
         self.sets.make()
     }
@@ -209,20 +186,19 @@ impl Rows {
     }
 
     /// A row of the spot of a number by its index, with the token before it, where that matters.
-    pub fn row_at(&self, spot: usize, index: usize) -> Option<(usize, Option<Sym>)> {
+    pub fn row_at(&self, spot: usize, index: usize) -> Option<(usize, Sym)> {
         let row = self.of_spots.get(spot)?.get(index).copied()?;
-        Some((row, self.rows.get(row)?.key.first))
+        Some((row, self.key(row)?.first?))
     }
 
     /// The row of a key, where there is one.
     pub fn find(&self, key: Key) -> Option<usize> {
-        let place = self.spots.get_index_of(&key.spot)?;
-        self.numbers.get(&(place, number_of(key.first))).copied()
+        self.keys.get_index_of(&key)
     }
 
     /// What a row is of.
     pub fn key(&self, row: usize) -> Option<Key> {
-        self.rows.get(row).map(|row| row.key)
+        self.keys.get_index(row).copied()
     }
 
     /// The levels of a row.
@@ -235,34 +211,38 @@ impl Rows {
         if !self.sets.has(self.rows.get(row)?.known, token) {
             return None;
         }
-        let mut levels = self.levels(row).iter();
-        levels.find(|level| self.sets.has(level.at, token)).copied()
+        for level in self.levels(row) {
+            if self.sets.has(level.at, token) {
+                return Some(*level);
+            }
+        }
+        None
     }
 
     /// What is taken before a token is ahead in a row, where it is.
     pub fn taken(&self, row: usize, token: Sym) -> Option<Taken> {
         let cost = self.level(row, token)?.cost;
-        let mut origins = self.rows.get(row)?.origins.iter();
-        let found = origins.find(|it| it.level.cost == cost && self.sets.has(it.level.at, token));
-        found.map(|it| it.taken)
+        for it in &self.rows.get(row)?.origins {
+            if it.level.cost == cost && self.sets.has(it.level.at, token) {
+                return Some(it.taken);
+            }
+        }
+        None
     }
 
-    /// The place of a spot.
-    fn place(&mut self, spot: Spot) -> Made<usize> {
-        let (place, is_new) = self.spots.insert_full(spot)?;
+    /// The row of a key, which is made where there is none.
+    fn number(&mut self, key: Key) -> Made<usize> {
+        if let Some(row) = self.find(key) {
+            return Ok(row);
+        }
+        let (place, is_new) = self.spots.insert_full(key.spot)?;
         if is_new {
             self.of_spots.push(Vec::new(self.alloc))?;
         }
-        Ok(place)
-    }
-
-    /// Makes a row.
-    fn make(&mut self, key: Key, place: usize) -> Made<usize> {
         let known = self.make_set()?;
         self.keep(WORDS_OF_ROW);
-        let row = self.rows.len();
+        let (row, _) = self.keys.insert_full(key)?;
         self.rows.push(Row {
-            key,
             known,
             levels: Vec::new(self.alloc),
             waiting: Vec::new(self.alloc),
@@ -271,112 +251,64 @@ impl Rows {
         if let Some(rows) = self.of_spots.get_mut(place) {
             rows.push(row)?;
         }
-        self.numbers.insert((place, number_of(key.first)), row)?;
         Ok(row)
-    }
-
-    /// The row of a key, which is made where there is none.
-    fn number(&mut self, key: Key) -> Made<usize> {
-        match self.find(key) {
-            Some(row) => Ok(row),
-            None => {
-                let place = self.place(key.spot)?;
-                self.make(key, place)
-            }
-        }
-    }
-
-    /// Makes a set wait to come into a row.
-    fn wait(&mut self, row: usize, level: Level) -> Made<()> {
-        let at = self.sets.copy(Source::all(level.at))?;
-        let level = Level { at, ..level };
-        // the first to wait is taken first: the queue takes the greatest number
-        let number = usize::MAX.saturating_sub(self.waiting.len());
-        self.queue.put(level.cost, number)?;
-        self.waiting.push((row, level.cost))?;
-        if let Some(found) = self.rows.get_mut(row) {
-            found.waiting.push(Waiting { level, waits: true })?;
-        }
-        Ok(())
-    }
-
-    /// Keeps by which way tokens come to be ahead in a row, and makes them wait.
-    fn keep_origin(&mut self, row: usize, origin: Origin, waits: Option<usize>) -> Made<()> {
-        let width = self.sets.width();
-        self.keep(width.saturating_add(WORDS_OF_ORIGIN));
-        if let Some(found) = self.rows.get_mut(row) {
-            found.origins.push(origin)?;
-        }
-        match waits {
-            Some(at) => {
-                self.sets.join(origin.level.at, at);
-                Ok(())
-            }
-            None => self.wait(row, origin.level),
-        }
     }
 
     /// Tokens wait to come into a row after so many others, which these parts are, but for those
     /// that it has, and those that wait already.
     pub fn put(&mut self, key: Key, cost: u64, source: Source, taken: Taken) -> Made<()> {
-        let row = self.number(key)?;
-        let width = self.sets.width();
+        let (row, width) = (self.number(key)?, self.sets.width);
         self.spend(width);
-        let Some(found) = self.rows.get(row) else {
+        let Some(found) = self.rows.get_mut(row) else {
             return Ok(());
         };
-        let waits = found.set_that_waits(cost);
-        let known = Known {
-            at: found.known,
-            other: waits,
+        let (at, other) = (found.known, found.set_that_waits(cost));
+        let Some(at) = self.sets.make_of(source, Known { at, other })? else {
+            return Ok(());
         };
-        if let Some(at) = self.sets.make_of(source, known)? {
-            let level = Level { cost, at };
-            self.keep_origin(row, Origin { level, taken }, waits)?;
-        }
-        Ok(())
-    }
-
-    /// What waits in a row with so many tokens before it comes into it, but for what it has; none
-    /// where it has all.
-    fn settle(&mut self, row: usize, cost: u64) -> Made<Option<Level>> {
-        let Some(found) = self.rows.get_mut(row) else {
-            return Ok(None);
-        };
-        let Some(at) = found.set_that_waits(cost) else {
-            return Ok(None);
-        };
-        found.end_waiting(cost);
-        let is_new = self.sets.take_out(at, found.known);
-        self.sets.join(at, found.known);
-        if !is_new {
-            return Ok(None);
-        }
         let level = Level { cost, at };
-        found.levels.push(level)?;
-        Ok(Some(level))
-    }
-
-    /// What waits by its number in the queue comes into its row.
-    fn settle_number(&mut self, number: usize) -> Made<Option<(usize, Level)>> {
-        let place = usize::MAX.saturating_sub(number);
-        match self.waiting.get(place).copied() {
-            Some((row, cost)) => {
-                let level = self.settle(row, cost)?;
-                Ok(level.map(|level| (row, level)))
+        found.origins.push(Origin { level, taken })?;
+        match other {
+            Some(waits) => self.sets.join(at, waits),
+            None => {
+                // a copy, since the set that waits grows
+                let waits = self.sets.make()?;
+                self.sets.join(at, waits);
+                let level = Level { cost, at: waits };
+                found.waiting.push(level)?;
+                // the first to wait is taken first: the queue takes the greatest number
+                let number = usize::MAX.saturating_sub(self.waiting.len());
+                self.queue.put(cost, number)?;
+                self.waiting.push((row, level))?;
             }
-            None => Ok(None),
         }
+        self.keep(width.saturating_add(WORDS_OF_ORIGIN));
+        Ok(())
     }
 
     /// The next tokens that come into a row, after the fewest tokens: the row and its new level.
     pub fn take(&mut self) -> Made<Option<(usize, Level)>> {
         for _ in 0..self.waiting.len() {
             let Some((_, number)) = self.queue.take() else {
-                return Ok(None);
+                break;
             };
-            if let Some(found) = self.settle_number(number)? {
-                return Ok(Some(found));
+            let place = usize::MAX.saturating_sub(number);
+            let Some((row, level)) = self.waiting.get(place).copied() else {
+                break;
+            };
+            let Some(found) = self.rows.get_mut(row) else {
+                break;
+            };
+            for it in found.waiting.iter_mut() {
+                if it.at == level.at {
+                    it.cost = FAR;
+                }
+            }
+            let is_new = self.sets.take_out(level.at, found.known);
+            self.sets.join(level.at, found.known);
+            if is_new {
+                found.levels.push(level)?;
+                return Ok(Some((row, level)));
             }
         }
         Ok(None)

@@ -1,15 +1,24 @@
 //! What a search in tables has found, and what it knows from the start: where empty rules leave the
 //! token ahead, and where a rest that is nothing lets its rule be reduced.
 
-use crate::detected::Detected;
-use crate::rows::{Key, Rows, Spot, Taken};
+use crate::rows::{Key, NOTHING, Rows, Spot, Taken};
 use crate::sets::Source;
 use crate::ways::{Ways, before_dot};
 use indexmap::IndexMap;
 use std::alloc::Global;
 use yexplain::reads::{Made, is_complete, items_of, left_of, set};
-use ylalr::{ERROR, Item, token_count};
+use ylalr::{END, ERROR, Item, token_count};
 use ysymbols::{Sym, let_go};
+use ytables::Action;
+
+/// The token at which an error is detected in a state first, and how many are taken before.
+#[derive(Clone, Copy, Drop)]
+pub struct Detected {
+    /// How many tokens are taken before.
+    pub cost: u64,
+    /// The token.
+    pub token: Sym,
+}
 
 /// A search in tables.
 pub struct Search<'a> {
@@ -20,7 +29,7 @@ pub struct Search<'a> {
     /// What is found.
     pub rows: Rows,
     /// For each state, and each rule that it reduces, the set of the tokens at which it does.
-    masks: IndexMap<(usize, usize), usize>,
+    pub masks: IndexMap<(usize, usize), usize>,
     /// The set of all tokens that an input can have.
     pub inputs: usize,
     /// The set of each alone.
@@ -81,32 +90,14 @@ impl<'a> Search<'a> {
         }
     }
 
-    /// The set of the tokens at which a state reduces a rule.
-    pub fn mask(&self, state: usize, rule: usize) -> Option<usize> {
-        self.masks.get(&(state, rule)).copied()
-    }
-
-    /// Makes the sets of the tokens of an input.
-    fn make_inputs(&mut self) -> Made<()> {
-        for token in 0..token_count(self.ways.grammar()) {
-            let alone = self.rows.make_set()?;
-            self.alone.push(alone)?;
-            if can_stand(self.absent, token) {
-                let inputs = self.inputs;
-                self.rows.sets.add(alone, token);
-                self.rows.sets.add(inputs, token);
-            }
-        }
-        Ok(())
-    }
-
     /// Makes the set of the tokens at which a state reduces a rule.
     fn make_mask(&mut self, state: usize, rule: usize) -> Made<usize> {
         let mask = self.rows.make_set()?;
         let tokens = token_count(self.ways.grammar());
         self.rows.spend(tokens);
         for token in 0..tokens {
-            if can_stand(self.absent, token) && self.ways.reduces(state, rule, token) {
+            let reduces = self.ways.action(state, token) == Action::Reduce(rule);
+            if can_stand(self.absent, token) && reduces {
                 self.rows.sets.add(mask, token);
             }
         }
@@ -114,60 +105,54 @@ impl<'a> Search<'a> {
         Ok(mask)
     }
 
-    /// Puts what an empty rule says of the goto of a state: the token ahead stays.
-    fn put_empty(&mut self, state: usize, item: Item, mask: usize) -> Made<()> {
-        for token in 0..self.alone.len() {
-            if self.rows.sets.has(mask, token) {
-                let alone = self.alone.get(token).copied().unwrap_or(mask);
-                let key = self.key_of(state, item, token);
-                self.give(key, 0, Source::all(alone), Taken::nothing())?;
-            }
-        }
-        Ok(())
-    }
-
-    /// Puts what an item of a state says, where it is complete.
+    /// Puts what an item of a state says, where it is complete: an empty rule leaves the token
+    /// ahead.
     fn put_item(&mut self, state: usize, item: Item) -> Made<()> {
         let grammar = self.ways.grammar();
         if !is_complete(grammar, item) {
             return Ok(());
         }
         let mask = self.make_mask(state, item.rule)?;
-        match before_dot(grammar, item) {
-            None => self.put_empty(state, item, mask),
-            Some(symbol) if grammar.is_token(symbol) => {
-                let spot = Spot::Rest(state, item);
-                let key = Key { spot, first: None };
-                self.rows.put(key, 0, Source::all(mask), Taken::nothing())
-            }
-            Some(_) => Ok(()),
+        if let Some(symbol) = before_dot(grammar, item) {
+            let spot = Spot::Rest(state, item);
+            let key = Key { spot, first: None };
+            return if grammar.is_token(symbol) {
+                self.rows.put(key, 0, Source::all(mask), NOTHING)
+            } else {
+                Ok(())
+            };
         }
-    }
-
-    /// Puts what the items of a state say.
-    fn put_items(&mut self, state: usize) -> Made<()> {
-        for item in items_of(self.ways.automaton(), state) {
-            self.put_item(state, *item)?;
+        for token in 0..self.alone.len() {
+            if self.rows.sets.has(mask, token) {
+                let alone = self.alone.get(token).copied().unwrap_or(mask);
+                let key = self.key_of(state, item, token);
+                self.give(key, 0, Source::all(alone), NOTHING)?;
+            }
         }
         Ok(())
     }
 
-    /// Puts what is known from the start.
+    /// Makes the sets of the tokens of an input, and puts what is known from the start.
     pub fn begin(&mut self) -> Made<()> {
-        self.make_inputs()?;
-        for state in 0..self.ways.automaton().states() {
-            if self.rows.has_steps() {
-                self.put_items(state)?;
+        let inputs = self.inputs;
+        for token in 0..token_count(self.ways.grammar()) {
+            let alone = self.rows.make_set()?;
+            self.alone.push(alone)?;
+            if can_stand(self.absent, token) {
+                self.rows.sets.add(alone, token);
+                self.rows.sets.add(inputs, token);
             }
         }
-        let inputs = self.inputs;
-        self.put_state(0, 0, inputs, Taken::nothing())
-    }
-
-    /// Tokens can be ahead in a state after so many.
-    pub fn put_state(&mut self, state: usize, cost: u64, at: usize, taken: Taken) -> Made<()> {
-        self.rows
-            .put(state_key(state), cost, Source::all(at), taken)
+        let automaton = self.ways.automaton();
+        for state in 0..automaton.states() {
+            if self.rows.has_steps() {
+                for item in items_of(automaton, state) {
+                    self.put_item(state, *item)?;
+                }
+            }
+        }
+        let first = Some(state_key(0));
+        self.give(first, 0, Source::all(inputs), NOTHING)
     }
 
     /// Tokens are ahead in a row, where there is one, after so many.
@@ -201,14 +186,17 @@ impl<'a> Search<'a> {
         }
     }
 
-    /// Notes an error, where it comes before the one that is noted.
+    /// Notes an error, where it comes before the one that is noted: after fewer tokens, or as many
+    /// and at a token with a lower number, the end the highest of all.
     pub fn note(&mut self, state: usize, detected: Detected) {
-        let is_first = match self.detected(state) {
-            Some(found) => detected.is_before(found),
-            None => true,
-        };
-        if is_first {
-            set(&mut self.detected, state, Some(detected));
+        if let Some(known) = self.detected(state) {
+            let is_lower = known.token == END || detected.token < known.token;
+            let is_tied = detected.cost == known.cost;
+            let is_before = is_tied && is_lower && detected.token != END;
+            if detected.cost >= known.cost && !is_before {
+                return;
+            }
         }
+        set(&mut self.detected, state, Some(detected));
     }
 }

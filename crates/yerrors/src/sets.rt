@@ -12,7 +12,7 @@ const BITS: usize = 64;
 pub struct Sets {
     words: Vec<u64>,
     /// How many words a set has.
-    width: usize,
+    pub width: usize,
 }
 
 /// What is taken of a set: those of its tokens that another one has too, where one is named.
@@ -49,11 +49,6 @@ impl Sets {
         }
     }
 
-    /// How many words a set has.
-    pub fn width(&self) -> usize {
-        self.width
-    }
-
     /// A word of a set.
     fn word(&self, at: usize, index: usize) -> u64 {
         let place = at.saturating_add(index);
@@ -71,29 +66,6 @@ impl Sets {
         set(&mut self.words, at.saturating_add(token / BITS), word);
     }
 
-    /// A word of what is taken of a set.
-    fn taken(&self, source: Source, index: usize) -> u64 {
-        let word = self.word(source.at, index);
-        match source.mask {
-            Some(mask) => word & self.word(mask, index),
-            None => word,
-        }
-    }
-
-    /// A word of what is known.
-    fn known(&self, known: Known, index: usize) -> u64 {
-        let word = self.word(known.at, index);
-        match known.other {
-            Some(other) => word | self.word(other, index),
-            None => word,
-        }
-    }
-
-    /// A word of what is taken of a set and isn't known.
-    fn fresh(&self, source: Source, known: Known, index: usize) -> u64 {
-        self.taken(source, index) & !self.known(known, index)
-    }
-
     /// Makes an empty set.
     pub fn make(&mut self) -> Made<usize> {
         let at = self.words.len();
@@ -103,26 +75,23 @@ impl Sets {
         Ok(at)
     }
 
-    /// Makes a set of what is taken of another.
-    pub fn copy(&mut self, source: Source) -> Made<usize> {
-        let at = self.words.len();
-        for index in 0..self.width {
-            let word = self.taken(source, index);
-            self.words.push(word)?;
-        }
-        Ok(at)
-    }
-
     /// Makes a set of what is taken of another and isn't known; none for nothing.
     pub fn make_of(&mut self, source: Source, known: Known) -> Made<Option<usize>> {
-        let is_known = (0..self.width).all(|index| self.fresh(source, known, index) == 0);
-        if is_known {
-            return Ok(None);
-        }
-        let at = self.words.len();
+        let (at, mut all) = (self.words.len(), 0);
         for index in 0..self.width {
-            let word = self.fresh(source, known, index);
+            let mut word = self.word(source.at, index) & !self.word(known.at, index);
+            if let Some(mask) = source.mask {
+                word &= self.word(mask, index);
+            }
+            if let Some(other) = known.other {
+                word &= !self.word(other, index);
+            }
+            all |= word;
             self.words.push(word)?;
+        }
+        if all == 0 {
+            self.words.truncate(at);
+            return Ok(None);
         }
         Ok(Some(at))
     }

@@ -3,9 +3,10 @@
 
 use indexmap::IndexSet;
 use std::alloc::Global;
-use ycounterexample::search::Finder;
 use yexplain::reads::{Made, action_of, body_of, goto_of, items_of, next_of};
 use ylalr::{Automaton, ERROR, Item};
+use ysearch::moves::Moves;
+use ysearch::shortest::Shortest;
 use ysymbols::{Grammar, Sym};
 use ytables::{Action, Tables};
 
@@ -27,26 +28,10 @@ pub struct Gotos {
 pub struct Ways<'a> {
     /// The tables.
     pub tables: &'a Tables,
-    /// The rules of a left side, and the states before a state.
-    pub finder: Finder,
+    /// The states before each state.
+    pub moves: Moves,
     /// The gotos.
     pub gotos: Gotos,
-}
-
-/// The item with its dot one symbol further to the left.
-pub fn moved_back(item: Item) -> Item {
-    Item {
-        rule: item.rule,
-        dot: item.dot.saturating_sub(1),
-    }
-}
-
-/// The item with its dot one symbol further to the right.
-pub fn moved_on(item: Item) -> Item {
-    Item {
-        rule: item.rule,
-        dot: item.dot.saturating_add(1),
-    }
 }
 
 /// The symbol before the dot of an item; none where the dot is at 0.
@@ -66,28 +51,16 @@ impl Gotos {
         };
         for state in 0..automaton.states() {
             gotos.starts.push(gotos.targets.len())?;
-            gotos.note_state(alloc, automaton, state)?;
+            for item in items_of(automaton, state) {
+                gotos.note(alloc, automaton, state, *item)?;
+            }
         }
         gotos.starts.push(gotos.targets.len())?;
         Ok(gotos)
     }
 
-    /// Notes the gotos of a state.
-    fn note_state(&mut self, alloc: Global, automaton: &Automaton, state: usize) -> Made<()> {
-        for item in items_of(automaton, state) {
-            self.note_item(alloc, automaton, state, *item)?;
-        }
-        Ok(())
-    }
-
     /// Notes the goto that an item of a state asks for, where it asks for one.
-    fn note_item(
-        &mut self,
-        alloc: Global,
-        automaton: &Automaton,
-        state: usize,
-        item: Item,
-    ) -> Made<()> {
+    fn note(&mut self, alloc: Global, automaton: &Automaton, state: usize, item: Item) -> Made<()> {
         let grammar = automaton.grammar();
         let symbol = match next_of(grammar, item) {
             Some(symbol) if !grammar.is_token(symbol) => symbol,
@@ -118,12 +91,6 @@ impl Gotos {
         Some((state, self.targets.get(number).copied()?))
     }
 
-    /// The nonterminal of a goto.
-    pub fn symbol(&self, number: usize) -> Option<Sym> {
-        let (_, symbol) = self.pairs.get_index(number).copied()?;
-        Some(symbol)
-    }
-
     /// The items of its state that have their dot before the nonterminal of a goto.
     pub fn items(&self, number: usize) -> &[Item] {
         self.items.get(number).map_or(&[], |items| items.as_slice())
@@ -140,10 +107,12 @@ impl Gotos {
 impl<'a> Ways<'a> {
     /// The ways of tables.
     pub fn new(alloc: Global, tables: &'a Tables) -> Made<Ways<'a>> {
+        let automaton = tables.automaton();
+        let shortest = Shortest::new(alloc, automaton.grammar())?;
         Ok(Ways {
             tables,
-            finder: Finder::new(alloc, tables.automaton())?,
-            gotos: Gotos::new(alloc, tables.automaton())?,
+            moves: Moves::new(alloc, automaton, &shortest)?,
+            gotos: Gotos::new(alloc, automaton)?,
         })
     }
 
@@ -159,28 +128,12 @@ impl<'a> Ways<'a> {
         tables.automaton().grammar()
     }
 
-    /// Whether a token of an input is shifted from a state to another.
-    pub fn shifts(&self, state: usize, token: Sym, to: usize) -> bool {
-        token != ERROR && action_of(self.tables, state, token) == Action::Shift(to)
-    }
-
-    /// Whether a rule is reduced in a state with a token of an input ahead.
-    pub fn reduces(&self, state: usize, rule: usize, token: Sym) -> bool {
-        token != ERROR && action_of(self.tables, state, token) == Action::Reduce(rule)
-    }
-
-    /// How many states lead to a state.
-    pub fn count_before(&self, state: usize) -> usize {
-        self.finder.moves().before(state).len()
-    }
-
-    /// One of the states that lead to a state.
-    pub fn state_before(&self, state: usize, place: usize) -> usize {
-        self.finder.moves().state_before(state, place)
-    }
-
-    /// The symbol that leads to a state.
-    pub fn symbol(&self, state: usize) -> Sym {
-        self.finder.moves().symbol(state)
+    /// What is done in a state with a token of an input ahead.
+    pub fn action(&self, state: usize, token: Sym) -> Action {
+        if token == ERROR {
+            Action::Error
+        } else {
+            action_of(self.tables, state, token)
+        }
     }
 }

@@ -1,19 +1,18 @@
-//! How precedences can settle a cell that shifts since they are missing: what a hint asks for is
-//! tried on the cell first.
+//! How a cell can be settled otherwise: what a hint asks for is tried on the cell first.
 
 use crate::lines::is_inner;
 use crate::question::Question;
-use crate::reads::level_of;
+use crate::reads::{action_of, conflict_of, level_of};
 use crate::rivals::{Kinds, Rivals, around};
-use crate::supposed::{TOP, place_of};
-use ycells::Candidate;
+use crate::supposed::{BOTTOM, TOP, place_of};
 use ylalr::END;
+use yreasons::Candidate;
 use ysymbols::{Associativity, Sym};
 use ytables::{Action, Class, Standing};
 
 /// A token that gives a rule its precedence, and the words of lines that choose between the rule
 /// and the token of the cell.
-#[derive(Clone, Copy, Drop)]
+#[derive(Clone, Copy, Drop, PartialEq, Eq)]
 pub struct Words {
     /// The token that gives the rule its precedence.
     pub giver: Sym,
@@ -36,7 +35,7 @@ impl Words {
 }
 
 /// What settles a conflict between a shift and a rule.
-#[derive(Clone, Copy, Drop)]
+#[derive(Clone, Copy, Drop, PartialEq, Eq)]
 pub enum Advice {
     /// Nothing: the end takes no precedence.
     End,
@@ -57,9 +56,45 @@ pub enum Advice {
     /// cell's token it shifts, later it reduces.
     Rule(Sym),
     /// Lines for the token and for the one from which the rule has its precedence.
-    Lines(Words),
+    Lines {
+        /// The words of the lines.
+        words: Words,
+        /// Whether a name of its own for the rule does as well.
+        own: bool,
+    },
     /// A name of its own for the rule.
     Own,
+}
+
+/// What a hint is for.
+#[derive(Clone, Copy, Drop, PartialEq, Eq)]
+pub enum Deed {
+    /// That the token is shifted.
+    Shift,
+    /// That a rule is reduced.
+    Reduce,
+}
+
+/// How a cell with several candidates can be settled otherwise.
+#[derive(Clone, Copy, Drop, PartialEq, Eq)]
+pub enum Hint {
+    /// The rules in another order, or another grammar: there is no shift.
+    First,
+    /// What settles the conflict with this rule.
+    Settle(usize, Advice),
+    /// Precedences of all rules.
+    General,
+    /// Another word in place of `%nonassoc`.
+    Turn {
+        /// Whether `%left` reduces.
+        reduces: bool,
+        /// Whether `%right` shifts.
+        shifts: bool,
+    },
+    /// `%right` for the line of the token, or `%left` to reduce.
+    Word(Deed),
+    /// The token on a later line than this one to shift, on an earlier one to reduce, of these words.
+    Order(Deed, Sym, Kinds),
 }
 
 /// The advice about a cell that counts a conflict and shifts: it is about the first rule that
@@ -71,7 +106,66 @@ pub fn advice_on(asked: Question<'_>) -> Option<(Candidate, Advice)> {
     Some((candidate, advice.unwrap_or(Advice::General)))
 }
 
+/// How a cell with several candidates can be settled otherwise.
+pub fn hint_on(asked: Question<'_>) -> Option<Hint> {
+    let rivals = Rivals::new(asked);
+    match action_of(asked.tables, asked.state, asked.token) {
+        Action::Reduce(_) if asked.shift().is_none() => Some(Hint::First),
+        Action::Reduce(_) => {
+            let beats = |candidate: &Candidate| candidate.standing.class() == Class::Beat;
+            Some(rivals.to_shift(asked.candidates().filter(beats).last()?))
+        }
+        Action::Error => Some(rivals.to_turn()),
+        Action::Shift(_) | Action::Accept => {
+            if conflict_of(asked.tables, asked.state, asked.token).is_none() {
+                return Some(rivals.to_reduce(asked.candidates().next()?));
+            }
+            let (candidate, advice) = advice_on(asked)?;
+            Some(Hint::Settle(candidate.rule, advice))
+        }
+    }
+}
+
 impl Rivals<'_> {
+    /// How to turn what is forbidden.
+    fn to_turn(&self) -> Hint {
+        let reduces = self.reduces(self.with_word(Associativity::Left));
+        let shifts = self.is_done(self.with_word(Associativity::Right), self.shift);
+        if reduces || shifts {
+            Hint::Turn { reduces, shifts }
+        } else {
+            Hint::General
+        }
+    }
+
+    /// How to shift where a rule has won.
+    fn to_shift(&self, candidate: Candidate) -> Hint {
+        let at = self.place(candidate.rule).unwrap_or(BOTTOM);
+        let turns = self.is_done(self.with_word(Associativity::Right), self.shift);
+        let kinds = self.kinds_between((at, usize::MAX), self.shift);
+        self.instead(candidate, Deed::Shift, (turns, kinds))
+    }
+
+    /// How to reduce where the token has won against a rule.
+    fn to_reduce(&self, candidate: Candidate) -> Hint {
+        let at = self.place(candidate.rule).unwrap_or(TOP);
+        let turns = self.reduces(self.with_word(Associativity::Left));
+        let kinds = Kinds::by(|kind| self.reduces_above(at, kind));
+        self.instead(candidate, Deed::Reduce, (turns, kinds))
+    }
+
+    /// How to do otherwise: where rule and token have one level, by another word for its line, if
+    /// that turns the cell, and else by another order of lines of these words.
+    fn instead(&self, candidate: Candidate, deed: Deed, (turns, kinds): (bool, Kinds)) -> Hint {
+        let giver = self.lines().giver(self.grammar(), candidate.rule);
+        match (candidate.standing, giver) {
+            (Standing::Level(_), _) if turns => Hint::Word(deed),
+            (Standing::Level(_), _) => Hint::General,
+            (_, Some(token)) if kinds.any() => Hint::Order(deed, token, kinds),
+            _ => Hint::General,
+        }
+    }
+
     /// What settles the conflict with a rule, where less does than precedences of all rules.
     fn advice(&self, candidate: Candidate) -> Option<Advice> {
         let rule = candidate.rule;
@@ -129,6 +223,9 @@ impl Rivals<'_> {
             shifts: self.kinds_by((self.token(), giver), self.shift),
             reduces: self.kinds_by((giver, self.token()), Action::Reduce(rule)),
         };
-        words.any().then_some(Advice::Lines(words))
+        let kinds = words.both();
+        let by_own = Kinds::by(|kind| self.chooses_by(rule, kind));
+        let own = kinds.any() && kinds.and(by_own) == kinds;
+        words.any().then_some(Advice::Lines { words, own })
     }
 }

@@ -1,18 +1,40 @@
-//! How to choose otherwise than a cell with a shift does. Each hint is tried on the cell first,
-//! with the precedences that it asks for.
+//! Hints as they are written.
 
-use crate::advice::{Advice, Words};
+use crate::advice::{Advice, Deed, Hint, Words};
 use crate::lines::is_inner;
 use crate::reads::level_of;
 use crate::rivals::{Kinds, Rivals};
-use crate::supposed::{BOTTOM, TOP};
 use std::io::{self, Write};
-use ycells::Candidate;
 use ylalr::END;
-use ysymbols::{Associativity, Sym};
-use ytables::Standing;
+use ysymbols::Sym;
 
 impl Rivals<'_> {
+    /// Writes how the cell can be settled otherwise.
+    pub fn put_hint<W: Write>(&self, out: &mut W, hint: Hint) -> io::Result<()> {
+        match hint {
+            Hint::First => writeln!(
+                out,
+                "  To choose, put the rule that you want first, or change the grammar so that one \
+                 alone fits here."
+            ),
+            Hint::Settle(rule, advice) => self.put_advice(out, rule, advice),
+            Hint::General => self.put_general(out),
+            Hint::Turn { reduces, shifts } => self.put_turn(out, (reduces, shifts)),
+            Hint::Word(deed) => {
+                let name = self.name();
+                let (deed, word) = match deed {
+                    Deed::Shift => ("shift", "%right"),
+                    Deed::Reduce => ("reduce", "%left"),
+                };
+                writeln!(
+                    out,
+                    "  To {deed} instead, write {word} for the line of {name}."
+                )
+            }
+            Hint::Order(deed, token, kinds) => self.put_order(out, deed, token, kinds),
+        }
+    }
+
     /// Writes how precedences of all rules choose, which is always so.
     fn put_general<W: Write>(&self, out: &mut W) -> io::Result<()> {
         let name = self.name();
@@ -32,74 +54,42 @@ impl Rivals<'_> {
     }
 
     /// Writes how to turn what is forbidden.
-    pub fn put_banned<W: Write>(&self, out: &mut W) -> io::Result<()> {
-        let reduces = self.reduces(self.with_word(Associativity::Left));
-        let shifts = self.is_done(self.with_word(Associativity::Right), self.shift);
-        let how = match (reduces, shifts) {
+    fn put_turn<W: Write>(&self, out: &mut W, turns: (bool, bool)) -> io::Result<()> {
+        let how = match turns {
             (true, true) => {
                 "choose otherwise, write %left in place of %nonassoc to reduce, %right to shift"
             }
             (true, false) => "reduce instead, write %left in place of %nonassoc",
-            (false, true) => "shift instead, write %right in place of %nonassoc",
-            (false, false) => return self.put_general(out),
+            _ => "shift instead, write %right in place of %nonassoc",
         };
         writeln!(out, "  To {how}.")
     }
 
-    /// Writes how to shift where a rule has won.
-    pub fn put_shift<W: Write>(&self, out: &mut W, candidate: Candidate) -> io::Result<()> {
-        let at = self.place(candidate.rule).unwrap_or(BOTTOM);
-        let turns = self.is_done(self.with_word(Associativity::Right), self.shift);
-        let kinds = self.kinds_between((at, usize::MAX), self.shift);
-        let words = ("shift", "%right", "a later");
-        self.put_instead(out, candidate, words, (turns, kinds))
-    }
-
-    /// Writes how to reduce where the token has won against a rule.
-    pub fn put_reduce<W: Write>(&self, out: &mut W, candidate: Candidate) -> io::Result<()> {
-        let at = self.place(candidate.rule).unwrap_or(TOP);
-        let turns = self.reduces(self.with_word(Associativity::Left));
-        let kinds = Kinds::by(|kind| self.reduces_above(at, kind));
-        let words = ("reduce", "%left", "an earlier");
-        self.put_instead(out, candidate, words, (turns, kinds))
-    }
-
-    /// Writes how to do otherwise: where rule and token have one level, by another word for its
-    /// line, if that turns the cell, and else by another order of lines of these kinds.
-    fn put_instead<W: Write>(
+    /// Writes that another order of lines of these words does something else.
+    fn put_order<W: Write>(
         &self,
         out: &mut W,
-        candidate: Candidate,
-        (deed, word, order): (&str, &str, &str),
-        (turns, kinds): (bool, Kinds),
+        deed: Deed,
+        token: Sym,
+        kinds: Kinds,
     ) -> io::Result<()> {
-        let name = self.name();
-        let giver = self.lines().giver(self.grammar(), candidate.rule);
-        match (candidate.standing, giver) {
-            (Standing::Level(_), _) if turns => {
-                writeln!(
-                    out,
-                    "  To {deed} instead, write {word} for the line of {name}."
-                )
-            }
-            (Standing::Level(_), _) => self.put_general(out),
-            (_, Some(token)) if kinds.any() => {
-                let token = self.named(token);
-                write!(
-                    out,
-                    "  To {deed} instead, name {name} on {order} line than {token}"
-                )?;
-                if kinds.left && kinds.right && kinds.nonassoc {
-                    return writeln!(out, ".");
-                }
-                writeln!(out, ", one of {kinds}.")
-            }
-            _ => self.put_general(out),
+        let (name, token) = (self.name(), self.named(token));
+        let (deed, order) = match deed {
+            Deed::Shift => ("shift", "a later"),
+            Deed::Reduce => ("reduce", "an earlier"),
+        };
+        write!(
+            out,
+            "  To {deed} instead, name {name} on {order} line than {token}"
+        )?;
+        if kinds.left && kinds.right && kinds.nonassoc {
+            return writeln!(out, ".");
         }
+        writeln!(out, ", one of {kinds}.")
     }
 
     /// Writes what settles a conflict with a rule.
-    pub fn put_advice<W: Write>(&self, out: &mut W, rule: usize, advice: Advice) -> io::Result<()> {
+    fn put_advice<W: Write>(&self, out: &mut W, rule: usize, advice: Advice) -> io::Result<()> {
         match advice {
             Advice::End => writeln!(
                 out,
@@ -114,7 +104,7 @@ impl Rivals<'_> {
             Advice::Both { reduces, shifts } => self.put_both(out, rule, (reduces, shifts)),
             Advice::Token(words) => self.put_token_line(out, rule, words),
             Advice::Rule(giver) => self.put_rule_line(out, rule, giver),
-            Advice::Lines(words) => self.put_lines(out, rule, words),
+            Advice::Lines { words, own } => self.put_lines(out, rule, (words, own)),
             Advice::Own => self.put_own(out, rule),
         }
     }
@@ -183,8 +173,13 @@ impl Rivals<'_> {
         )
     }
 
-    /// Writes how the lines of two tokens choose.
-    fn put_lines<W: Write>(&self, out: &mut W, rule: usize, words: Words) -> io::Result<()> {
+    /// Writes how the lines of two tokens choose, and whether a name of its own for the rule does.
+    fn put_lines<W: Write>(
+        &self,
+        out: &mut W,
+        rule: usize,
+        (words, own): (Words, bool),
+    ) -> io::Result<()> {
         let (shifts, reduces, both) = (words.shifts, words.reduces, words.both());
         let (name, token) = (self.name(), self.named(words.giver));
         if both.any() {
@@ -193,7 +188,14 @@ impl Rivals<'_> {
                 "  To choose, name {name} and {token} on two lines of {both}: {name} on the later \
                  one shifts, {token} on it reduces."
             )?;
-            return self.put_own_name(out, rule, both);
+            if own {
+                writeln!(
+                    out,
+                    "  In place of {token}, rule {rule} can have a name of its own, by %prec NAME \
+                     at its end."
+                )?;
+            }
+            return Ok(());
         }
         if shifts.any() {
             writeln!(
@@ -210,19 +212,5 @@ impl Rivals<'_> {
             )?;
         }
         Ok(())
-    }
-
-    /// Writes that a rule can have a name of its own, where that chooses with all of these words.
-    fn put_own_name<W: Write>(&self, out: &mut W, rule: usize, kinds: Kinds) -> io::Result<()> {
-        let own = Kinds::by(|kind| self.chooses_by(rule, kind));
-        match self.lines().giver(self.grammar(), rule) {
-            Some(token) if kinds.and(own) == kinds => writeln!(
-                out,
-                "  In place of {}, rule {rule} can have a name of its own, by %prec NAME at its \
-                 end.",
-                self.named(token)
-            ),
-            _ => Ok(()),
-        }
     }
 }

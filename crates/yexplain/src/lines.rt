@@ -3,44 +3,10 @@
 
 use crate::reads::{Made, body_of, left_of, name_of};
 use std::alloc::Global;
-use std::fmt;
+pub use yfiles::place::{Spot, Spots, newlines};
 use ylexemes::part::Lexeme;
-use ysourcemap::{Mark, Role};
 use ysymbols::{Grammar, Sym, let_go};
-
-/// A place of a file: its line, and its column where that is known or wanted, both counted from 1.
-/// Columns are bytes.
-#[derive(Clone, Copy, Drop, PartialEq, Eq)]
-pub struct Spot {
-    /// The line.
-    pub line: usize,
-    /// The column.
-    pub column: Option<usize>,
-}
-
-impl Spot {
-    /// A whole line.
-    pub fn of_line(line: usize) -> Spot {
-        Spot { line, column: None }
-    }
-
-    /// The same, without its column unless columns are wanted.
-    pub fn told(self, columns: bool) -> Spot {
-        let Spot { line, column } = self;
-        let column = if columns { column } else { None };
-        Spot { line, column }
-    }
-}
-
-impl fmt::Display for Spot {
-    fn fmt<W: fmt::Write>(&self, f: &mut fmt::Formatter<W>) -> fmt::Result {
-        let line = self.line;
-        match self.column {
-            Some(column) => write!(f, "{line}:{column}"),
-            None => write!(f, "{line}"),
-        }
-    }
-}
+use ysyntax::{Mark, Role};
 
 /// A symbol that a file names.
 #[derive(Clone, Copy, Drop, PartialEq, Eq)]
@@ -112,44 +78,6 @@ impl Drop for Lines {
     }
 }
 
-/// How many newlines there are.
-pub fn newlines(bytes: &[u8]) -> usize {
-    bytes.iter().filter(|b| **b == b'\n').count()
-}
-
-/// What counts lines and columns, for one place of a text after the other.
-#[derive(Clone, Copy)]
-pub struct Spots<'a> {
-    bytes: &'a [u8],
-    at: usize,
-    line: usize,
-    start: usize,
-}
-
-impl<'a> Spots<'a> {
-    /// The start of these bytes.
-    pub fn new(bytes: &'a [u8]) -> Spots<'a> {
-        Spots {
-            bytes,
-            at: 0,
-            line: 1,
-            start: 0,
-        }
-    }
-
-    /// The line and the column of a place, both counted from 1. It stands after the place that was
-    /// asked for before.
-    pub fn reach(&mut self, at: usize) -> (usize, usize) {
-        let passed = self.bytes.get(self.at..at).unwrap_or(&[]);
-        self.line = self.line.saturating_add(newlines(passed));
-        if let Some(last) = passed.iter().rposition(|b| *b == b'\n') {
-            self.start = self.at.saturating_add(last).saturating_add(1);
-        }
-        self.at = at;
-        (self.line, at.saturating_sub(self.start).saturating_add(1))
-    }
-}
-
 /// Where the lexemes of a file of these bytes stand.
 pub fn spots_of(alloc: Global, source: &[u8], marks: &[Mark<'_>]) -> Made<Vec<Spot>> {
     let mut found = Vec::with_capacity(alloc, marks.len())?;
@@ -202,28 +130,14 @@ pub fn symbol_of(grammar: &Grammar, lexeme: Lexeme<'_>) -> Option<Sym> {
 }
 
 impl Places {
-    fn new(alloc: Global) -> Places {
-        Places {
-            rules: Vec::new(alloc),
-            actions: Vec::new(alloc),
-            mentions: Vec::new(alloc),
-        }
-    }
-
-    /// Notes that a symbol is named.
-    fn mention(&mut self, symbol: Sym, spot: Spot, role: Role) -> Made<()> {
-        if let (Role::PrecName(_), Some(rule)) = (role, self.rules.last_mut()) {
-            rule.prec = Some(symbol);
-        }
-        self.mentions.push(Mention { symbol, spot, role })?;
-        Ok(())
-    }
-
     /// Takes a lexeme at a place in.
     fn take(&mut self, grammar: &Grammar, mark: Mark<'_>, spot: Spot) -> Made<()> {
         let Mark { placed, role } = mark;
         if let (true, Some(symbol)) = (names_symbol(role), symbol_of(grammar, placed.lexeme)) {
-            self.mention(symbol, spot, role)?;
+            if let (Role::PrecName(_), Some(rule)) = (role, self.rules.last_mut()) {
+                rule.prec = Some(symbol);
+            }
+            self.mentions.push(Mention { symbol, spot, role })?;
         }
         match role {
             Role::Left(_) | Role::Bar(_) => self.rules.push(Begun { spot, prec: None })?,
@@ -268,24 +182,6 @@ pub fn last_token(grammar: &Grammar, body: &[Sym]) -> Option<Sym> {
         .find(|symbol| grammar.is_token(*symbol))
 }
 
-/// What stands in a file.
-fn places_of(alloc: Global, marks: &[Mark<'_>], spots: &[Spot], grammar: &Grammar) -> Made<Places> {
-    let mut places = Places::new(alloc);
-    for (mark, spot) in marks.iter().zip(spots) {
-        places.take(grammar, *mark, *spot)?;
-    }
-    Ok(places)
-}
-
-/// The lexemes of a text.
-fn sites_of(alloc: Global, marks: &[Mark<'_>]) -> Made<Vec<Site>> {
-    let mut sites = Vec::with_capacity(alloc, marks.len())?;
-    for mark in marks {
-        sites.push(Site::of(*mark))?;
-    }
-    Ok(sites)
-}
-
 impl Lines {
     /// Where the rules and symbols of a grammar stand in the file that it was read from, by its
     /// source map and the places of the lexemes there. It fails only when memory runs out.
@@ -295,10 +191,20 @@ impl Lines {
         spots: &[Spot],
         grammar: &Grammar,
     ) -> Made<Lines> {
-        let places = places_of(alloc, marks, spots, grammar)?;
+        let mut places = Places {
+            rules: Vec::new(alloc),
+            actions: Vec::new(alloc),
+            mentions: Vec::new(alloc),
+        };
+        for (mark, spot) in marks.iter().zip(spots) {
+            places.take(grammar, *mark, *spot)?;
+        }
         let rules = places.by_number(alloc, grammar)?;
         let Places { mentions, .. } = places;
-        let sites = sites_of(alloc, marks)?;
+        let mut sites = Vec::with_capacity(alloc, marks.len())?;
+        for mark in marks {
+            sites.push(Site::of(*mark))?;
+        }
         Ok(Lines {
             rules,
             mentions,

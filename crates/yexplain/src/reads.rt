@@ -3,9 +3,8 @@
 ghost use Rattle.std.specs.Iterator.{at_most};
 
 use std::alloc::{AllocError, Global};
-use ycells::{Candidate, candidate_at, next_rule, shift_at};
 use ylalr::{Automaton, Item};
-use yreasons::{Place, Reason, Reasons, leading};
+use yreasons::{Candidate, Place, Reason, Reasons, candidate_at, leading, next_rule, shift_at};
 use ysymbols::{Grammar, Precedence, Rule, Sym};
 use ytables::{Action, Conflict, Tables, is_ready, next_symbol};
 
@@ -233,16 +232,6 @@ pub fn candidate_of(tables: &Tables, state: usize, token: Sym, index: usize) -> 
     }
 }
 
-/// The first rule that is a candidate in a cell, of those from an index of the state on.
-fn rule_from(tables: &Tables, state: usize, token: Sym, index: usize) -> Option<Candidate> {
-    let automaton = tables.automaton();
-    if state < automaton.states() && automaton.grammar().is_token(token) {
-        next_rule(tables, state, token, index)
-    } else {
-        None
-    }
-}
-
 /// The rules that are candidates in a cell, in their order.
 #[derive(Clone, Copy, Drop)]
 pub struct Candidates<'a> {
@@ -265,7 +254,12 @@ impl Iterator for Candidates<'_> {
             return None;
         }
         self.most -= 1;
-        let candidate = rule_from(self.tables, self.state, self.token, self.index)?;
+        let (tables, state, token) = (self.tables, self.state, self.token);
+        let automaton = tables.automaton();
+        if state >= automaton.states() || !automaton.grammar().is_token(token) {
+            return None;
+        }
+        let candidate = next_rule(tables, state, token, self.index)?;
         self.index = candidate.index.saturating_add(1);
         Some(candidate)
     }

@@ -56,14 +56,6 @@ pub fn sources_of(alloc: Global, reasons: &Reasons<'_>, asked: Question<'_>) -> 
 }
 
 impl<'a> Question<'a> {
-    /// Writes an item of a chain, with its state.
-    fn put_opener<W: Write>(self, out: &mut W, place: Place) -> io::Result<()> {
-        let state = place.state;
-        let number = Numbered(self.lines, place.item.rule);
-        let text = ItemText(self.grammar(), place.item);
-        writeln!(out, "    state {state}  {number}  {text}")
-    }
-
     /// Writes where the token comes from that can come after a rule.
     fn put_chain<W: Write>(self, out: &mut W, source: &Source) -> io::Result<()> {
         let name = self.name();
@@ -73,7 +65,10 @@ impl<'a> Question<'a> {
         for index in 0..source.chain.len() {
             if let Some(place) = source.opener(index) {
                 if shown < MOST_ITEMS {
-                    self.put_opener(out, place)?;
+                    let state = place.state;
+                    let number = Numbered(self.lines, place.item.rule);
+                    let text = ItemText(self.grammar(), place.item);
+                    writeln!(out, "    state {state}  {number}  {text}")?;
                 }
                 shown = shown.saturating_add(1);
             }

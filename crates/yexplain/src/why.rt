@@ -1,18 +1,35 @@
 //! Why a cell says what it says: its candidates, what settled it, and how to choose otherwise.
 
-use crate::advice::advice_on;
+use crate::advice::{Hint, hint_on};
 pub use crate::question::Question;
 use crate::reads::{action_of, conflict_of, default_of, next_of};
 use crate::rivals::Rivals;
 use crate::text::{ItemText, Name, Numbered, RuleText};
 use std::io::{self, Write};
-use ycells::Candidate;
 use ylalr::{END, Item};
+use yreasons::Candidate;
 use ysymbols::Associativity;
-use ytables::{Action, Class, Standing};
+use ytables::{Action, Standing};
 
 /// The most candidates of one kind that are shown.
 const MOST_SHOWN: usize = 10;
+
+/// How a cell with several candidates is settled, whatever its token and the state of its shift are.
+#[derive(Clone, Copy, Drop, PartialEq, Eq)]
+pub struct Settled {
+    /// The rule that is reduced, where one is.
+    reduced: Option<usize>,
+    /// Whether the token can't come.
+    is_error: bool,
+    /// Whether a conflict is counted.
+    is_conflict: bool,
+    /// Whether the token is the end.
+    is_end: bool,
+    /// How the first rules stand to the token, where it could be shifted.
+    standings: [Option<Standing>; MOST_SHOWN],
+    /// How to choose otherwise.
+    pub hint: Option<Hint>,
+}
 
 /// Writes what a cell says: `state 33 on ELSE: shift, to state 35`.
 pub fn put_cell<W: Write>(out: &mut W, asked: Question<'_>) -> io::Result<()> {
@@ -49,9 +66,47 @@ impl<'a> Question<'a> {
                 None => writeln!(out, "  Nothing else can be done here."),
             },
             _ => {
-                self.put_candidates(out, shifts)?;
-                self.put_settled(out, shifts)
+                self.put_rivals(out, shifts)?;
+                self.put_grounds(out)
             }
+        }
+    }
+
+    /// Writes how a cell with several candidates is settled: how the rules stand to the shift, where
+    /// there is one, what is done, and how to choose otherwise.
+    pub fn put_grounds<W: Write>(self, out: &mut W) -> io::Result<()> {
+        let shifts = self.shift().is_some();
+        if shifts {
+            for candidate in self.candidates().take(MOST_SHOWN) {
+                self.put_standing(out, candidate)?;
+            }
+        }
+        self.put_settled(out, shifts)?;
+        match hint_on(self) {
+            Some(hint) => Rivals::new(self).put_hint(out, hint),
+            None => Ok(()),
+        }
+    }
+
+    /// How the cell is settled, where it has several candidates.
+    pub fn settled(self) -> Settled {
+        let mut standings = [None; MOST_SHOWN];
+        if self.shift().is_some() {
+            for (place, candidate) in standings.iter_mut().zip(self.candidates()) {
+                *place = Some(candidate.standing);
+            }
+        }
+        let action = action_of(self.tables, self.state, self.token);
+        Settled {
+            reduced: match action {
+                Action::Reduce(rule) => Some(rule),
+                _ => None,
+            },
+            is_error: action == Action::Error,
+            is_conflict: conflict_of(self.tables, self.state, self.token).is_some(),
+            is_end: self.token == END,
+            standings,
+            hint: hint_on(self),
         }
     }
 
@@ -68,17 +123,12 @@ impl<'a> Question<'a> {
         }
     }
 
-    /// Writes the candidates, and how the rules stand to the shift, where there is one.
-    fn put_candidates<W: Write>(self, out: &mut W, shifts: bool) -> io::Result<()> {
-        if !shifts {
-            return self.put_rules(out);
+    /// Writes the candidates.
+    fn put_rivals<W: Write>(self, out: &mut W, shifts: bool) -> io::Result<()> {
+        if shifts {
+            self.put_shifts(out)?;
         }
-        self.put_shifts(out)?;
-        self.put_rules(out)?;
-        for candidate in self.candidates().take(MOST_SHOWN) {
-            self.put_standing(out, candidate)?;
-        }
-        Ok(())
+        self.put_rules(out)
     }
 
     /// Writes the items that could shift.
@@ -149,81 +199,37 @@ impl<'a> Question<'a> {
         }
     }
 
-    /// Writes what settled the cell with several candidates, and how to choose otherwise.
+    /// Writes what is done in a cell with several candidates.
     fn put_settled<W: Write>(self, out: &mut W, shifts: bool) -> io::Result<()> {
         let is_conflict = conflict_of(self.tables, self.state, self.token).is_some();
+        let name = self.name();
         match action_of(self.tables, self.state, self.token) {
-            Action::Reduce(rule) if shifts => self.put_beaten(out, rule, is_conflict),
-            Action::Reduce(rule) => self.put_least(out, rule),
-            Action::Error => self.put_banned(out),
-            Action::Shift(_) | Action::Accept if is_conflict => self.put_open(out),
-            Action::Shift(_) | Action::Accept => self.put_kept(out),
-        }
-    }
-
-    /// The shift and a rule have one level that is nonassociative.
-    fn put_banned<W: Write>(self, out: &mut W) -> io::Result<()> {
-        let name = self.name();
-        writeln!(out, "  So {name} can't come here; nothing is counted.")?;
-        Rivals::new(self).put_banned(out)
-    }
-
-    /// A rule beats the shift, and this is the least rule that doesn't lose.
-    fn put_beaten<W: Write>(self, out: &mut W, rule: usize, more: bool) -> io::Result<()> {
-        let name = self.name();
-        writeln!(out, "  So rule {rule} is reduced and {name} isn't shifted.")?;
-        if more {
-            writeln!(
-                out,
-                "  Of the rules that don't lose, the first in the file is taken: a conflict."
-            )?;
-        }
-        let beats = |candidate: &Candidate| candidate.standing.class() == Class::Beat;
-        match self.candidates().filter(beats).last() {
-            Some(candidate) => Rivals::new(self).put_shift(out, candidate),
-            None => Ok(()),
-        }
-    }
-
-    /// The shift beats all rules.
-    fn put_kept<W: Write>(self, out: &mut W) -> io::Result<()> {
-        let name = self.name();
-        writeln!(out, "  So {name} is shifted; nothing is counted.")?;
-        match self.candidates().next() {
-            Some(candidate) => Rivals::new(self).put_reduce(out, candidate),
-            None => Ok(()),
-        }
-    }
-
-    /// The shift is taken since precedences are missing: a conflict.
-    fn put_open<W: Write>(self, out: &mut W) -> io::Result<()> {
-        let deed = if self.token == END {
-            "accepts"
-        } else {
-            "shifts"
-        };
-        writeln!(
-            out,
-            "  So yacc {deed}: a conflict, counted once for each such rule."
-        )?;
-        match advice_on(self) {
-            Some((candidate, advice)) => {
-                Rivals::new(self).put_advice(out, candidate.rule, advice)
+            Action::Reduce(rule) if shifts => {
+                writeln!(out, "  So rule {rule} is reduced and {name} isn't shifted.")?;
+                if is_conflict {
+                    writeln!(
+                        out,
+                        "  Of the rules that don't lose, the first in the file is taken: a conflict."
+                    )?;
+                }
+                Ok(())
             }
-            None => Ok(()),
+            Action::Reduce(rule) => writeln!(
+                out,
+                "  So rule {rule} is reduced, the first of them in the file: a conflict."
+            ),
+            Action::Error => { writeln!(out, "  So {name} can't come here; nothing is counted.") }
+            Action::Shift(_) | Action::Accept if is_conflict => {
+                let is_end = self.token == END;
+                let deed = if is_end { "accepts" } else { "shifts" };
+                writeln!(
+                    out,
+                    "  So yacc {deed}: a conflict, counted once for each such rule."
+                )
+            }
+            Action::Shift(_) | Action::Accept => {
+                writeln!(out, "  So {name} is shifted; nothing is counted.")
+            }
         }
-    }
-
-    /// There is no shift, and this is the least of several rules: a conflict.
-    fn put_least<W: Write>(self, out: &mut W, rule: usize) -> io::Result<()> {
-        writeln!(
-            out,
-            "  So rule {rule} is reduced, the first of them in the file: a conflict."
-        )?;
-        writeln!(
-            out,
-            "  To choose, put the rule that you want first, or change the grammar so that one \
-             alone fits here."
-        )
     }
 }

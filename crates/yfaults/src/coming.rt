@@ -1,6 +1,10 @@
 //! What can come at a place of a grammar file.
 
+use crate::nearest::Search;
+use std::alloc::Global;
 use std::fmt;
+use yexplain::reads::Made;
+use ylexemes::bytes::is_name_byte;
 use ylexemes::kind::Kind;
 use ysyntax::recogniser::State;
 
@@ -46,4 +50,20 @@ impl fmt::Display for Coming {
         }
         Ok(())
     }
+}
+
+/// The directive that is near to the word at the front of a text, where that begins as one.
+pub fn near_directive(alloc: Global, text: &[u8]) -> Made<Option<&[u8]>> {
+    let Some(after) = text.strip_prefix(b"%") else {
+        return Ok(None);
+    };
+    let letters = after.iter().take_while(|byte| is_name_byte(**byte)).count();
+    let word = text.get(..letters.saturating_add(1)).unwrap_or(text);
+    let mut search = Search::new(word);
+    for (_, words) in &KINDS {
+        if words.starts_with('%') && words.len() > 2 {
+            search.offer(alloc, words.as_bytes())?;
+        }
+    }
+    Ok(search.found())
 }

@@ -1,23 +1,27 @@
 //! What is said of the faults of grammar files, with what helps beside the words of their codes.
 
-use crate::coming::Coming;
+use crate::coming::{Coming, near_directive};
 use crate::long::long_rule;
 use crate::nearest::Search;
-use crate::shown::{Place, put_whole};
 use crate::words::{AT_END, grammar_code, words_of};
 use std::alloc::Global;
 use std::io::{self, Write};
 use yexplain::lines::name_in;
 use yexplain::reads::{Made, name_of};
 use yexplain::text::Bytes;
+use yfiles::diagnostic::{Diagnostic, Diagnostics};
+use yfiles::place::Place;
 use yforeign::directive::is_imported;
 use ygrammar::{Grammar, GrammarFault, PlacedFault};
 use ylalr::token_count;
-use ysourcemap::{Mark, Role};
 use ysymbols::names::{SymbolTable, intern};
+use ysyntax::{Mark, Role};
 
 /// The most names that are listed.
 const MOST_NAMED: usize = 20;
+
+/// What helps with a file of bison.
+const FOREIGN: &str = "If the file is one of bison or byacc, ydebug import makes it one of yacc.";
 
 /// The nearest to the name at a place of those that are symbols of a file.
 fn nearest_symbol<'a>(alloc: Global, map: &[Mark<'a>], at: usize) -> Made<Option<&'a [u8]>> {
@@ -50,23 +54,27 @@ pub fn nearest_token<'a>(
 }
 
 /// Asks whether a name was meant.
-pub fn put_question<W: Write>(out: &mut W, name: &[u8]) -> io::Result<()> {
-    let name = Bytes(name);
-    writeln!(out, "  Did you mean {name}?")
+pub fn ask(alloc: Global, one: &mut Diagnostic, name: &[u8]) -> io::Result<()> {
+    let (mut note, name) = (Vec::new(alloc), Bytes(name));
+    write!(note, "Did you mean {name}?")?;
+    Ok(one.help(note)?)
 }
 
-/// Writes of which nonterminals but the first no list of tokens can be made.
-fn put_others<W: Write>(out: &mut W, names: &SymbolTable) -> io::Result<()> {
+/// Says of which nonterminals but the first no list of tokens can be made.
+fn say_others(alloc: Global, one: &mut Diagnostic, names: &SymbolTable) -> io::Result<()> {
     if names.len() < 2 {
         return Ok(());
     }
-    write!(out, "  The same holds of:")?;
+    let mut note = Vec::new(alloc);
+    note.write_all(b"The same holds of:")?;
     for number in 1..names.len().min(MOST_NAMED + 1) {
         let name = Bytes(names.get(number).unwrap_or(b""));
-        write!(out, " {name}")?;
+        write!(note, " {name}")?;
     }
-    let is_cut = names.len() > MOST_NAMED + 1;
-    writeln!(out, "{}", if is_cut { " .." } else { "" })
+    if names.len() > MOST_NAMED + 1 {
+        note.write_all(b" ..")?;
+    }
+    Ok(one.help(note)?)
 }
 
 /// A fault of a grammar file, with the file's source map; that has no marks where the file has no
@@ -109,55 +117,66 @@ impl Refusal<'_> {
     }
 }
 
-/// Writes what helps with a fault beside the words of its code.
-fn put_help<W: Write>(
-    out: &mut W,
+/// Says what helps with a fault beside the words of its code.
+fn help(
     alloc: Global,
+    one: &mut Diagnostic,
     source: &[u8],
     refusal: &Refusal<'_>,
 ) -> io::Result<()> {
     let (PlacedFault { fault, at, state }, marks) = (refusal.placed, refusal.marks.as_slice());
     match fault {
-        GrammarFault::Syntax { .. } => match state {
-            Some(state) => writeln!(out, "  Here can come: {}", Coming(state)),
-            None => Ok(()),
-        },
+        GrammarFault::Syntax { .. } => {
+            if let Some(state) = state {
+                let (mut note, coming) = (Vec::new(alloc), Coming(state));
+                write!(note, "Here can come: {coming}")?;
+                one.help(note)?;
+            }
+            Ok(())
+        }
         GrammarFault::Undefined { .. } => match nearest_symbol(alloc, marks, at)? {
-            Some(name) => put_question(out, name),
+            Some(name) => ask(alloc, one, name),
             None => Ok(()),
         },
-        GrammarFault::Unproductive { .. } => put_others(out, &refusal.barren_names(alloc)?),
-        GrammarFault::Foreign { .. } if is_imported(source.get(at..).unwrap_or(&[])) => {
-            writeln!(
-                out,
-                "  If the file is one of bison or byacc, --from bison reads it, and ydebug import \
-                 makes it one of yacc."
-            )
+        GrammarFault::Unproductive { .. } => {
+            say_others(alloc, one, &refusal.barren_names(alloc)?)
+        }
+        GrammarFault::Foreign { .. } => {
+            let rest = source.get(at..).unwrap_or(&[]);
+            if is_imported(rest) {
+                return Ok(one.note(alloc, FOREIGN)?);
+            }
+            match near_directive(alloc, rest)? {
+                Some(name) => ask(alloc, one, name),
+                None => Ok(()),
+            }
         }
         _ => Ok(()),
     }
 }
 
-/// Writes a fault of a grammar file of these bytes: the line, with this column where there is one,
-/// what is wrong there, its text with a caret under its place but at the end of the file, how to
-/// mend it, and what else helps. Where memory runs out while what helps is sought, the error says
-/// so.
-pub fn put_grammar_fault<W: Write>(
-    out: &mut W,
+/// Says what is wrong with a grammar file of these bytes: where, with the text of the line and a
+/// caret but at the end of the file, how to mend it, and what else helps. Where memory runs out while
+/// that is sought, the error says so.
+pub fn add_grammar_fault(
     alloc: Global,
+    told: &mut Diagnostics,
     (path, source): (&str, &[u8]),
     refusal: &Refusal<'_>,
-    column: Option<usize>,
 ) -> io::Result<()> {
     let fault = refusal.placed.fault;
     let Some(words) = words_of(grammar_code(fault)) else {
         return Ok(());
     };
     let Some(at) = refusal.place() else {
-        return put_whole(out, path, words);
+        let mut one = Diagnostic::new(alloc, Some(path), None)?;
+        words.say(alloc, &mut one)?;
+        return Ok(told.add(one)?);
     };
     let is_end = matches!(fault, GrammarFault::Syntax { .. }) && at >= source.len();
     let words = if is_end { AT_END } else { words };
-    Place { path, source, at }.put(out, column, words, !is_end)?;
-    put_help(out, alloc, source, refusal)
+    let mut one = Diagnostic::at(alloc, Place { path, source, at }, !is_end)?;
+    words.say(alloc, &mut one)?;
+    help(alloc, &mut one, source, refusal)?;
+    Ok(told.add(one)?)
 }

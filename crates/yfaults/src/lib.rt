@@ -6,5 +6,4 @@ mod grammar_fault;
 mod long;
 pub mod nearest;
 pub mod opening;
-pub mod shown;
 mod words;

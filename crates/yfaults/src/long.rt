@@ -1,7 +1,7 @@
 //! The rule of a file that has too many symbols.
 
-use ysourcemap::{Mark, Role};
 use ysymbols::limits::LONGEST_BODY;
+use ysyntax::{Mark, Role};
 
 /// A rule being counted: where it begins, how many symbols its body has, and whether the last part
 /// is an action, which is a symbol only where more follows.

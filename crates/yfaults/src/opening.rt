@@ -1,13 +1,14 @@
-//! What is opened of a grammar file, and what is said of grammar files and tokens files that are
+//! What is opened of a grammar file, and what is wrong with grammar files and tokens files that are
 //! refused.
 
-use crate::grammar_fault::{Refusal, nearest_token, put_grammar_fault, put_question};
-use crate::shown::{Place, put_whole};
+use crate::grammar_fault::{Refusal, add_grammar_fault, ask, nearest_token};
 use crate::words::{token_code, words_of};
 use std::alloc::Global;
-use std::io::{self, ErrorKind, Write};
+use std::io::{self, ErrorKind};
 use std::rt::Files;
 use yexplain::lines::Lines;
+use yfiles::diagnostic::{Diagnostic, Diagnostics};
+use yfiles::place::Place;
 use yfiles::reading::first_bytes;
 use ygrammar::{Grammar, GrammarFault, LONGEST_FILE, Mark, PlacedFault};
 use ylalr::BuildFault;
@@ -87,31 +88,24 @@ pub fn grammar_bytes<F: Files + AllocGlobal>(rt: &F, path: &str) -> io::Result<V
     first_bytes(rt, path, (LONGEST_FILE as u64).saturating_add(1))
 }
 
-/// Writes that a file can't be read, and gives the exit status; only no memory stays an error.
-pub fn put_unread<W: Write>(out: &mut W, path: &str, error: io::Error) -> io::Result<u8> {
-    if error.kind() == ErrorKind::OutOfMemory {
-        return Err(error);
-    }
-    writeln!(out, "ydebug: cannot read {path}")?;
-    Ok(3)
-}
-
-/// Writes why the grammar file of these bytes isn't opened, with this column of its place, where
-/// there is one. No memory is an error, which each program tells in its own name.
-pub fn put_trouble<W: Write>(
-    out: &mut W,
+/// Says why the grammar file of these bytes isn't opened. No memory is an error, which each program
+/// tells in its own name.
+pub fn add_trouble(
     alloc: Global,
+    told: &mut Diagnostics,
     file: (&str, &[u8]),
     trouble: &Trouble<'_>,
-    column: Option<usize>,
 ) -> io::Result<()> {
     match trouble {
         Trouble::Memory => Err(io::Error::from(ErrorKind::OutOfMemory)),
-        Trouble::Grammar(refusal) => put_grammar_fault(out, alloc, file, refusal, column),
-        Trouble::TooManySets => match words_of("B1") {
-            Some(words) => put_whole(out, file.0, words),
-            None => Ok(()),
-        },
+        Trouble::Grammar(refusal) => add_grammar_fault(alloc, told, file, refusal),
+        Trouble::TooManySets => {
+            let mut one = Diagnostic::new(alloc, Some(file.0), None)?;
+            if let Some(words) = words_of("B1") {
+                words.say(alloc, &mut one)?;
+            }
+            Ok(told.add(one)?)
+        }
     }
 }
 
@@ -129,65 +123,66 @@ pub fn word_place(source: &[u8], number: usize) -> Option<usize> {
     Some(before.saturating_add(blanks))
 }
 
-/// Writes a fault of a tokens file of these bytes, with its column where columns are wanted.
-pub fn put_token_fault<W: Write>(
-    out: &mut W,
-    (path, source): (&str, &[u8]),
-    fault: TokenFault,
-    columns: bool,
-) -> io::Result<()> {
-    let (code, number) = token_code(fault);
-    let Some(words) = words_of(code) else {
-        return Ok(());
-    };
-    match number.and_then(|number| word_place(source, number)) {
-        Some(at) => {
-            let place = Place { path, source, at };
-            place.put(out, place.column(columns), words, true)
-        }
-        None => put_whole(out, path, words),
-    }
-}
-
-/// Asks whether another token was meant, where a tokens file has a name that the grammar hasn't.
-/// Where memory runs out in that search, the error says so.
-pub fn put_near_token<W: Write>(
-    out: &mut W,
+/// The token that could be meant, where tokens of these bytes have a name that the grammar hasn't.
+fn near_token<'a>(
     alloc: Global,
-    grammar: &Grammar,
-    source: &[u8],
+    grammar: &'a Grammar,
+    source: &'a [u8],
     fault: TokenFault,
-) -> io::Result<()> {
+) -> io::Result<Option<&'a [u8]>> {
     let TokenFault::Unknown(place) = fault else {
-        return Ok(());
+        return Ok(None);
     };
     let at = word_place(source, place).unwrap_or(source.len());
-    let Front::Word(word, _) = front_of(source.get(at..).unwrap_or(&[])) else {
-        return Ok(());
-    };
-    match nearest_token(alloc, grammar, word)? {
-        Some(name) => put_question(out, name),
-        None => Ok(()),
+    match front_of(source.get(at..).unwrap_or(&[])) {
+        Front::Word(word, _) => Ok(nearest_token(alloc, grammar, word)?),
+        _ => Ok(None),
     }
 }
 
-/// Writes a fault of tokens that are a part of another file, which begins at a place, with its
-/// column where columns are wanted, and asks whether another token was meant.
-pub fn put_part_fault<W: Write>(
-    out: &mut W,
+/// What is wrong with tokens of these bytes, as something already has its place.
+fn token_fault(
+    alloc: Global,
+    grammar: &Grammar,
+    part: &[u8],
+    fault: TokenFault,
+    mut one: Diagnostic,
+) -> io::Result<Diagnostic> {
+    if let Some(words) = words_of(token_code(fault).0) {
+        words.say(alloc, &mut one)?;
+    }
+    if let Some(name) = near_token(alloc, grammar, part, fault)? {
+        ask(alloc, &mut one, name)?;
+    }
+    Ok(one)
+}
+
+/// A fault of a tokens file of these bytes, and the token that could be meant. Where memory runs out
+/// in that search, the error says so.
+pub fn file_fault(
+    alloc: Global,
+    grammar: &Grammar,
+    (path, source): (&str, &[u8]),
+    fault: TokenFault,
+) -> io::Result<Diagnostic> {
+    let word = token_code(fault).1;
+    let one = match word.and_then(|number| word_place(source, number)) {
+        Some(at) => Diagnostic::at(alloc, Place { path, source, at }, true)?,
+        None => Diagnostic::new(alloc, Some(path), None)?,
+    };
+    token_fault(alloc, grammar, source, fault, one)
+}
+
+/// A fault of tokens that are a part of another file, which begins at a place, likewise.
+pub fn part_fault(
     alloc: Global,
     grammar: &Grammar,
     (place, part): (Place<'_>, &[u8]),
     fault: TokenFault,
-    columns: bool,
-) -> io::Result<()> {
-    let (code, number) = token_code(fault);
-    let Some(words) = words_of(code) else {
-        return Ok(());
-    };
-    let before = number.and_then(|number| word_place(part, number));
+) -> io::Result<Diagnostic> {
+    let word = token_code(fault).1;
+    let before = word.and_then(|number| word_place(part, number));
     let at = place.at.saturating_add(before.unwrap_or(0));
-    let place = Place { at, ..place };
-    place.put(out, place.column(columns), words, true)?;
-    put_near_token(out, alloc, grammar, part, fault)
+    let one = Diagnostic::at(alloc, Place { at, ..place }, true)?;
+    token_fault(alloc, grammar, part, fault, one)
 }

@@ -1,5 +1,8 @@
 //! The table of the codes: what is wrong, and how to mend it.
 
+use std::alloc::Global;
+use yexplain::reads::Made;
+use yfiles::diagnostic::Diagnostic;
 use ygrammar::GrammarFault;
 use ytokens::tokens::TokenFault;
 
@@ -12,6 +15,15 @@ pub struct Words {
     pub what: &'static str,
     /// How to mend it.
     pub mend: &'static str,
+}
+
+impl Words {
+    /// Says what is wrong, and how to mend it.
+    pub fn say(self, alloc: Global, one: &mut Diagnostic) -> Made<()> {
+        one.code = Some(self.code);
+        one.say(self.what)?;
+        one.note(alloc, self.mend)
+    }
 }
 
 /// The codes of grammar files (G), of too large automata (B) and of tokens files (K): for each a

@@ -1,12 +1,17 @@
-//! Files that a person names: read up to a limit, and written so that none is left cut off.
+//! Files that a person names: read up to a limit, and written so that none is left cut off; and
+//! what is said of them.
 //!
-//! `reading` reads them and says which are too long, `same` tells whether an output is an input or
+//! `place` counts lines and columns, and shows the text of a place. `diagnostic` has what is said,
+//! as values, and writes it for people. `reading` reads files and says which are too long, `same`
+//! tells whether an output is an input or
 //! another output, and `writing` writes a text beside its file and renames it when it is complete.
 //! `steady` has a writer whose failure doesn't end the work, and `arguments` the arguments of a
 //! program.
 #![tactic(auto)]
 
 pub mod arguments;
+pub mod diagnostic;
+pub mod place;
 pub mod reading;
 pub mod same;
 pub mod steady;

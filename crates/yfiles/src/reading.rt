@@ -1,5 +1,6 @@
 //! Files read up to a limit.
 
+use crate::diagnostic::{Diagnostic, Diagnostics};
 use std::alloc::Global;
 use std::fs;
 use std::io::{self, ErrorKind, Read, Write};
@@ -52,43 +53,79 @@ impl Limited<'_> {
         Ok(within(bytes, self.most))
     }
 
-    /// Writes that the file has more bytes than may be taken, and how many it has, where that can
-    /// be told, as it can't of a pipe or a device.
-    pub fn put_long<F: Files, W: Write>(self, rt: &F, out: &mut W) -> io::Result<()> {
-        let Limited { path, most } = self;
-        match fs::metadata(rt, path) {
-            Ok(there) if there.is_file() && there.len() > most => {
-                let size = there.len();
-                writeln!(out, "{path}: it has {size} bytes; {most} are the limit")
-            }
-            _ => writeln!(out, "{path}: it has more than {most} bytes, the limit"),
-        }
-    }
-
-    /// Writes so of an input, and how to raise its limit.
-    pub fn put_long_input<F: Files, W: Write>(self, rt: &F, out: &mut W) -> io::Result<()> {
-        self.put_long(rt, out)?;
-        writeln!(out, "  --limit N takes inputs of up to N bytes")
-    }
-
-    /// All bytes of the file. Where it has too many, that is written, with how to raise the limit
-    /// where an option does; or that it can't be read; and the exit status is the answer.
-    pub fn bytes_or_status<F: Files + AllocGlobal, E: Write>(
+    /// That the file has more bytes than may be taken, and how many it has, where that can be told,
+    /// as it can't of a pipe or a device; with how to raise the limit where an option does.
+    pub fn too_long<F: Files + AllocGlobal>(
         self,
         rt: &F,
         is_raised: bool,
-        errors: &mut E,
+    ) -> io::Result<Diagnostic> {
+        let (alloc, Limited { path, most }) = (rt.alloc(), self);
+        let mut one = Diagnostic::new(alloc, Some(path), None)?;
+        match fs::metadata(rt, path) {
+            Ok(there) if there.is_file() && there.len() > most => {
+                let size = there.len();
+                write!(one.message, "it has {size} bytes; {most} are the limit")?;
+            }
+            _ => write!(one.message, "it has more than {most} bytes, the limit")?,
+        }
+        if is_raised {
+            one.note(alloc, "--limit N takes inputs of up to N bytes")?;
+        }
+        Ok(one)
+    }
+
+    /// All bytes of the file. Where it has too many, that is said, with how to raise the limit
+    /// where an option does; or that it can't be read; and the exit status is the answer.
+    pub fn bytes_or_status<F: Files + AllocGlobal>(
+        self,
+        rt: &F,
+        is_raised: bool,
+        told: &mut Diagnostics,
     ) -> io::Result<Result<Vec<u8>, u8>> {
         match self.bytes(rt) {
             Ok(Some(bytes)) => Ok(Ok(bytes)),
-            Ok(None) if is_raised => self.put_long_input(rt, errors).map(|()| Err(1)),
-            Ok(None) => self.put_long(rt, errors).map(|()| Err(1)),
-            Err(error) if error.kind() == ErrorKind::OutOfMemory => Err(error),
-            Err(_) => {
-                let path = self.path;
-                writeln!(errors, "ydebug: cannot read {path}")?;
-                Ok(Err(3))
+            Ok(None) => {
+                told.add(self.too_long(rt, is_raised)?)?;
+                Ok(Err(1))
             }
+            Err(error) => unread(rt.alloc(), told, self.path, error).map(Err),
         }
     }
+}
+
+/// Says what can't be done with a file, and gives the exit status; only no memory stays an error.
+fn undone(
+    alloc: Global,
+    told: &mut Diagnostics,
+    (what, path): (&str, &str),
+    error: io::Error,
+) -> io::Result<u8> {
+    if error.kind() == ErrorKind::OutOfMemory {
+        return Err(error);
+    }
+    let mut one = Diagnostic::new(alloc, None, None)?;
+    write!(one.message, "cannot {what} {path}")?;
+    told.add(one)?;
+    Ok(3)
+}
+
+/// Says that a file can't be read, and gives the exit status; only no memory stays an error.
+pub fn unread(
+    alloc: Global,
+    told: &mut Diagnostics,
+    path: &str,
+    error: io::Error,
+) -> io::Result<u8> {
+    undone(alloc, told, ("read", path), error)
+}
+
+/// Says that a file can't be written, likewise.
+pub fn unwritten(
+    alloc: Global,
+    told: &mut Diagnostics,
+    path: &str,
+    error: io::Error,
+) -> io::Result<u8> {
+    undone(alloc, told, ("write", path), error)
 }

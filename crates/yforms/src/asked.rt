@@ -68,18 +68,13 @@ fn conflicts_in<'m>(matches: &'m ArgMatches<'_>) -> Result<Asked<'m>, Refused> {
     })
 }
 
-/// The paths of inputs.
-fn inputs_in<'m>(matches: &'m ArgMatches<'_>) -> &'m [&'m str] {
-    matches.get_strs("tokens").unwrap_or(&[])
-}
-
 /// Verdicts on inputs.
 fn check_in<'m>(matches: &'m ArgMatches<'_>) -> Result<Asked<'m>, Refused> {
     let format = form_of(matches.get_str("format"));
     let asked = check::Asked {
         inputs: checking::Asked {
             files: language_in(matches)?,
-            inputs: inputs_in(matches),
+            inputs: matches.get_strs("tokens").unwrap_or(&[]),
             messages: matches.get_str("messages"),
             most: most_of(matches)?,
             format: format.unwrap_or(Format::Text),
@@ -146,7 +141,7 @@ fn sentences_in<'m>(matches: &'m ArgMatches<'_>) -> Result<Asked<'m>, Refused> {
 fn cover_in<'m>(matches: &'m ArgMatches<'_>) -> Result<Asked<'m>, Refused> {
     Ok(Asked::Cover(cover::Asked {
         files: language_in(matches)?,
-        inputs: inputs_in(matches),
+        inputs: matches.get_strs("tokens").unwrap_or(&[]),
         most: most_of(matches)?,
         strict: is_given(matches, "strict"),
     }))
@@ -154,9 +149,12 @@ fn cover_in<'m>(matches: &'m ArgMatches<'_>) -> Result<Asked<'m>, Refused> {
 
 /// A page of a parse.
 fn page_in<'m>(matches: &'m ArgMatches<'_>) -> Result<Asked<'m>, Refused> {
-    let (bison, from) = page_from(matches.get_strs("from").unwrap_or(&[]))?;
+    let (dialect, from) = page_from(matches.get_strs("from").unwrap_or(&[]))?;
     let files = LanguageFiles {
-        grammar: GrammarFile::new(value_of(matches, "grammar")?, bison),
+        grammar: GrammarFile {
+            path: value_of(matches, "grammar")?,
+            dialect,
+        },
         spec: matches.get_str("lex"),
     };
     let input = input_in(matches)?;
@@ -167,32 +165,6 @@ fn page_in<'m>(matches: &'m ArgMatches<'_>) -> Result<Asked<'m>, Refused> {
         conflicts: is_given(matches, "conflicts"),
     };
     Ok(Asked::Page(files, input, asked))
-}
-
-/// An import.
-fn import_in<'m>(matches: &'m ArgMatches<'_>) -> Result<Asked<'m>, Refused> {
-    Ok(Asked::Import(import::Asked {
-        file: value_of(matches, "file")?,
-        output: matches.get_str("output"),
-    }))
-}
-
-/// Names for rules.
-fn rules_in<'m>(matches: &'m ArgMatches<'_>) -> Result<Asked<'m>, Refused> {
-    Ok(Asked::Rules(rules::Asked {
-        grammar: grammar_in(matches)?,
-        header: matches.get_str("header"),
-        python: matches.get_str("python"),
-    }))
-}
-
-/// The files that `yacc` writes.
-fn table_in<'m>(matches: &'m ArgMatches<'_>) -> Result<Asked<'m>, Refused> {
-    Ok(Asked::Table(table::Asked {
-        grammar: value_of(matches, "grammar")?,
-        prefix: matches.get_str("prefix").unwrap_or("y"),
-        report: is_given(matches, "v"),
-    }))
 }
 
 /// What a form and what stands after it ask for.
@@ -208,16 +180,24 @@ pub fn asked_in<'m>(form: Form, matches: &'m ArgMatches<'_>) -> Result<Asked<'m>
         Form::Sentences => sentences_in(matches),
         Form::Cover => cover_in(matches),
         Form::Page => page_in(matches),
-        Form::Import => import_in(matches),
+        Form::Import => Ok(Asked::Import(import::Asked {
+            file: value_of(matches, "file")?,
+            output: matches.get_str("output"),
+        })),
         Form::Tokens => {
             let (files, input) = (language_in(matches)?, input_in(matches)?);
             Ok(Asked::Tokens(files, input))
         }
-        Form::Sketch => {
-            let file = grammar_in(matches)?;
-            Ok(Asked::Sketch(file))
-        }
-        Form::Rules => rules_in(matches),
-        Form::Table => table_in(matches),
+        Form::Sketch => Ok(Asked::Sketch(grammar_in(matches)?)),
+        Form::Rules => Ok(Asked::Rules(rules::Asked {
+            grammar: grammar_in(matches)?,
+            header: matches.get_str("header"),
+            python: matches.get_str("python"),
+        })),
+        Form::Table => Ok(Asked::Table(table::Asked {
+            grammar: value_of(matches, "grammar")?,
+            prefix: matches.get_str("prefix").unwrap_or("y"),
+            report: is_given(matches, "v"),
+        })),
     }
 }

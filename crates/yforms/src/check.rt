@@ -7,9 +7,10 @@ use std::rt::Files;
 use ydiagnostics::checking::{self, run_checking};
 use ydiagnostics::format::Format;
 use ydiagnostics::messaged::Messaged;
+use yfiles::diagnostic::Diagnostics;
 use yfiles::reading::Limited;
-use yinput::language::{Input, Language};
-use yinput::verdict::{Verdict, verdict_on};
+use yinput::language::Input;
+use yinput::verdict::verdict_on;
 use yinput::verdict_text::{put_choice, put_plain_choice};
 
 /// What is asked for: verdicts on inputs.
@@ -23,34 +24,7 @@ pub struct Asked<'a> {
     pub plain: bool,
 }
 
-/// Writes the verdict on an input for people, and gives its exit status.
-fn put_told<W: Write>(
-    alloc: Global,
-    out: &mut W,
-    told: &Messaged,
-    path: &str,
-    (input, verdict): (&Input, &Verdict),
-) -> io::Result<u8> {
-    let spoken = told.language.spoken();
-    match told.message(alloc, input, verdict)? {
-        Some(message) => verdict.put(out, spoken, path, input, Some(message.as_slice())),
-        None => verdict.put(out, spoken, path, input, None),
-    }
-}
-
 impl Asked<'_> {
-    /// Writes whether the grammar has choices, where that is wanted.
-    fn put_choice<W: Write>(self, out: &mut W, language: &Language) -> io::Result<()> {
-        let (path, tables) = (self.inputs.files.grammar.path, &language.opened.tables);
-        if self.plain {
-            put_plain_choice(out, path, tables)
-        } else if self.choice {
-            put_choice(out, path, tables)
-        } else {
-            Ok(())
-        }
-    }
-
     /// Writes the verdict on an input, and gives its exit status.
     fn put_verdict<W: Write>(
         self,
@@ -60,12 +34,14 @@ impl Asked<'_> {
         path: &str,
         input: &Input,
     ) -> io::Result<u8> {
-        let verdict = verdict_on(alloc, &told.language.opened.tables, &input.tokens)?;
+        let language = &told.language;
+        let verdict = verdict_on(alloc, &language.opened.tables, &input.tokens)?;
         if self.plain {
-            verdict.put_plain(out, path)
-        } else {
-            put_told(alloc, out, told, path, (input, &verdict))
+            return verdict.put_plain(out, path);
         }
+        let message = told.message(alloc, input, &verdict)?;
+        let message = message.as_ref().map(Vec::as_slice);
+        verdict.put(alloc, out, language.spoken(), (path, input), message)
     }
 }
 
@@ -116,10 +92,19 @@ impl<F: Files + AllocGlobal, R: Read, E: Write> Given<'_, F, R, E> {
     fn put_verdicts<W: Write>(&mut self, asked: Asked<'_>, out: &mut W) -> io::Result<u8> {
         let most = asked.inputs.most;
         let messages = asked.inputs.messages.map(|path| Limited { path, most });
-        match Messaged::open(self.rt, asked.inputs.files, messages, &mut self.errors)? {
-            Ok(told) => {
-                asked.put_choice(out, &told.language)?;
-                self.put_inputs(asked, &told, out)
+        let mut told = Diagnostics::new(self.rt.alloc());
+        let opened = Messaged::open(self.rt, asked.inputs.files, messages, &mut told)?;
+        told.put(&mut self.errors, "ydebug")?;
+        match opened {
+            Ok(messaged) => {
+                let path = asked.inputs.files.grammar.path;
+                let tables = &messaged.language.opened.tables;
+                if asked.plain {
+                    put_plain_choice(out, path, tables)?;
+                } else if asked.choice {
+                    put_choice(out, path, tables)?;
+                }
+                self.put_inputs(asked, &messaged, out)
             }
             Err(status) => Ok(status),
         }
@@ -133,11 +118,6 @@ impl<F: Files + AllocGlobal, R: Read, E: Write> Given<'_, F, R, E> {
         if asked.inputs.format == Format::Text {
             return self.put_verdicts(asked, out);
         }
-        let files = asked.inputs.files.with_columns();
-        let asked = checking::Asked {
-            files,
-            ..asked.inputs
-        };
-        run_checking(self.rt, asked, &mut self.input, out)
+        run_checking(self.rt, asked.inputs, &mut self.input, out)
     }
 }

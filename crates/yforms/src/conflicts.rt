@@ -2,14 +2,16 @@
 
 use crate::given::Given;
 use crate::values::NO_FOLDER;
+use std::alloc::Global;
 use std::io::{self, Read, Write};
 use std::rt::Files;
 use yaccepted::expected::{Counts, numbers_in};
-use yaccepted::judged::{self, Judged, judge};
+use yaccepted::judged::{self, Judged, Telling, judge};
 use yaccepted::opening::{Counted, File, open_counted};
 use ydiagnostics::format::{Format, NO_FORM, form_of};
 use ydiagnostics::report::{self as machine, run_report};
 use yfaults::opening::Opened;
+use yfiles::diagnostic::{Diagnostics, Severity};
 use yfiles::same::refused_outputs;
 use yinput::grammars::GrammarFile;
 use ylists::saving::are_refused;
@@ -66,35 +68,27 @@ fn counts_in(asked: Asked<'_>) -> Option<Counts> {
     numbers_in(asked.expect?)
 }
 
-/// Whether a grammar has a warning, where all its conflicts are accepted and that counts.
-fn is_warned<F: AllocGlobal>(
-    rt: &F,
-    asked: Asked<'_>,
-    accepted: Option<bool>,
-    opened: &Opened,
-) -> io::Result<bool> {
-    if !asked.strict || accepted != Some(true) {
-        return Ok(false);
-    }
-    let warnings = warnings_of(rt.alloc(), &opened.tables, &opened.lines)?;
-    Ok(!warnings.is_empty())
-}
-
 /// Writes what a list of accepted conflicts comes to, where there is one, and on `errors` which
 /// conflicts it hasn't, and which the grammar hasn't.
 fn put_listed<W: Write, E: Write>(
+    alloc: Global,
     asked: Asked<'_>,
     judged: &Judged,
     out: &mut W,
     errors: &mut E,
 ) -> io::Result<()> {
-    match (&judged.listed, asked.accept) {
-        (Some(listed), Some(path)) => {
-            listed.put(out, path)?;
-            listed.put_told(errors, asked.grammar.path, path)
-        }
-        _ => Ok(()),
-    }
+    let (Some(listed), Some(path)) = (&judged.listed, asked.accept) else {
+        return Ok(());
+    };
+    listed.put(out, path)?;
+    let mut told = Diagnostics::new(alloc);
+    let telling = Telling {
+        paths: (asked.grammar.path, path),
+        severity: Severity::Error,
+        is_whole: false,
+    };
+    listed.add_told(alloc, &mut told, telling)?;
+    told.put(errors, "ydebug")
 }
 
 /// Which conflicts are accepted.
@@ -104,17 +98,6 @@ fn accepted_by(asked: Asked<'_>) -> judged::Asked<'_> {
         expect: counts_in(asked),
         accept: asked.accept,
         update: asked.update,
-    }
-}
-
-/// The grammar file as it is read for a form of what is said.
-fn file_of(asked: Asked<'_>, format: Format) -> File<'_> {
-    let GrammarFile { path, bison, .. } = asked.grammar;
-    File {
-        path,
-        bison,
-        comments: asked.strict && asked.expect.is_none(),
-        columns: format != Format::Text,
     }
 }
 
@@ -128,14 +111,18 @@ impl<F: Files + AllocGlobal + Clone + Drop, R: Read, E: Write> Given<'_, F, R, E
         out: &mut W,
     ) -> io::Result<u8> {
         let (rt, accepted) = (self.rt, judged.is_accepted());
-        let is_warned = is_warned(rt, asked, accepted, &opened)?;
+        let is_counted = asked.strict && accepted == Some(true);
+        let is_warned = is_counted
+            && !warnings_of(rt.alloc(), "", &opened.tables, &opened.lines)?
+                .all
+                .is_empty();
         let report = report::Asked {
             grammar: asked.grammar.path,
             save: asked.save,
             strict: asked.strict && accepted.is_none(),
         };
         let status = put_conflicts(rt, out, &mut self.errors, report, opened)?;
-        put_listed(asked, judged, out, &mut self.errors)?;
+        put_listed(rt.alloc(), asked, judged, out, &mut self.errors)?;
         let is_bad = asked.strict && (is_warned || accepted == Some(false));
         Ok(if is_bad { status.max(1) } else { status })
     }
@@ -147,7 +134,10 @@ impl<F: Files + AllocGlobal + Clone + Drop, R: Read, E: Write> Given<'_, F, R, E
         counted: Counted,
         out: &mut W,
     ) -> io::Result<u8> {
-        let judged = match judge(self.rt, accepted_by(asked), &counted, &mut self.errors)? {
+        let mut told = Diagnostics::new(self.rt.alloc());
+        let judged = judge(self.rt, accepted_by(asked), &counted, &mut told)?;
+        told.put(&mut self.errors, "ydebug")?;
+        let judged = match judged {
             Ok(judged) => judged,
             Err(status) => return Ok(status),
         };
@@ -162,9 +152,17 @@ impl<F: Files + AllocGlobal + Clone + Drop, R: Read, E: Write> Given<'_, F, R, E
         format: Format,
         out: &mut W,
     ) -> io::Result<u8> {
-        let file = file_of(asked, format);
+        let GrammarFile { path, dialect } = asked.grammar;
+        let file = File {
+            path,
+            dialect,
+            comments: asked.strict && asked.expect.is_none(),
+        };
         if format == Format::Text {
-            return match open_counted(self.rt, file, &mut self.errors)? {
+            let mut told = Diagnostics::new(self.rt.alloc());
+            let opened = open_counted(self.rt, file, &mut told)?;
+            told.put(&mut self.errors, "ydebug")?;
+            return match opened {
                 Ok(counted) => self.put_counted(asked, counted, out),
                 Err(status) => Ok(status),
             };

@@ -4,14 +4,12 @@ use crate::given::Given;
 use std::alloc::{AllocError, Global};
 use std::io::{self, Read, Write};
 use std::rt::Files;
-use ycover::elements::Elements;
-use ycover::report::put_report;
-use ycover::walk::{Walked, Walker};
-use yexplain::lines::Lines;
 use yfaults::opening::Opened;
 use yfiles::reading::Limited;
 use yinput::language::{Input, Language, LanguageFiles};
 use yinput::verdict::{Verdict, verdict_on};
+use ysentences::elements::Elements;
+use ysentences::walk::{put_report, walk_all};
 
 /// What is asked for: what inputs use.
 #[derive(Clone, Copy)]
@@ -33,32 +31,6 @@ struct Inputs {
     status: u8,
 }
 
-/// Writes the verdict on an input, where it isn't accepted.
-fn put_verdict<W: Write>(
-    alloc: Global,
-    out: &mut W,
-    language: &Language,
-    path: &str,
-    input: &Input,
-) -> io::Result<()> {
-    match verdict_on(alloc, &language.opened.tables, &input.tokens)? {
-        Verdict::Accepted(_) => Ok(()),
-        verdict => verdict
-            .put(out, language.spoken(), path, input, None)
-            .map(|_| ()),
-    }
-}
-
-/// What parses over inputs use.
-fn walk_all(alloc: Global, opened: Opened, inputs: &[Input]) -> io::Result<(Walked, Lines)> {
-    let Opened { tables, lines } = opened;
-    let mut walker = Walker::new(alloc, tables)?;
-    for input in inputs {
-        walker.walk(&input.tokens.symbols)?;
-    }
-    Ok((walker.finish()?, lines))
-}
-
 /// Writes what parses over inputs use, and says whether that is all.
 fn put_uses<W: Write>(
     alloc: Global,
@@ -66,7 +38,8 @@ fn put_uses<W: Write>(
     opened: Opened,
     inputs: &[Input],
 ) -> io::Result<bool> {
-    let (walked, lines) = walk_all(alloc, opened, inputs)?;
+    let Opened { tables, lines } = opened;
+    let walked = walk_all(alloc, tables, inputs)?;
     let elements = Elements {
         tables: &walked.tables,
         lines: &lines,
@@ -91,7 +64,11 @@ impl<F: Files + AllocGlobal, R: Read, E: Write> Given<'_, F, R, E> {
         for path in asked.inputs {
             match self.read_input(language, Limited { path, most })? {
                 Ok(input) => {
-                    put_verdict(self.rt.alloc(), out, language, path, &input)?;
+                    let alloc = self.rt.alloc();
+                    let verdict = verdict_on(alloc, &language.opened.tables, &input.tokens)?;
+                    if !matches!(verdict, Verdict::Accepted(_)) {
+                        verdict.put(alloc, out, language.spoken(), (path, &input), None)?;
+                    }
                     inputs.read.push(input).map_err(AllocError::from)?;
                 }
                 Err(fault) => {

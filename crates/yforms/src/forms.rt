@@ -223,32 +223,27 @@ pub fn option_of(wanted: &'static str) -> Option<&'static str> {
     Some(option.split_once(' ').map_or(option, |(name, _)| name))
 }
 
-/// An option with a value of this spelling: with `!` it is required, with dots it may be given
-/// again. Without a value it is a flag.
-fn with_value<'a>(arg: Arg<'a>, value: &'static str) -> Arg<'a> {
-    match (value.strip_suffix("!"), value.strip_suffix("..")) {
-        (Some(shown), _) => arg.value_name(shown).required(true),
-        (_, Some(shown)) => arg.value_name(shown).action(ArgAction::Append),
-        _ if value.is_empty() => arg.action(ArgAction::SetTrue),
-        _ => arg.value_name(value),
-    }
-}
-
 /// An argument of this name that is given once.
 fn named<'a>(alloc: Global, name: &'static str, help: &'static str) -> Arg<'a> {
     Arg::new(alloc, name).action(ArgAction::Set).help(help)
 }
 
-/// An argument as clap has it: a name, and the one that help shows where that is another, are a
-/// file, which is required, and with dots several; a letter after a dash has the name of its value,
-/// where it has one.
+/// An argument as clap has it. An option has a value, which with `!` is required and with dots may
+/// be given again; without one it is a flag. A name, and the one that help shows where that is
+/// another, are a file, which is required, and with dots several; a letter after a dash has the name
+/// of its value, where it has one.
 fn argument<'a>(alloc: Global, wanted: &'static str) -> Arg<'a> {
     let (spelled, help) = halves(wanted);
     let (front, value) = spelled.split_once(' ').unwrap_or((spelled, ""));
     if let Some(name) = front.strip_prefix("--") {
-        return with_value(named(alloc, name, help).long(name), value);
+        let arg = named(alloc, name, help).long(name);
+        return match (value.strip_suffix("!"), value.strip_suffix("..")) {
+            (Some(shown), _) => arg.value_name(shown).required(true),
+            (_, Some(shown)) => arg.value_name(shown).action(ArgAction::Append),
+            _ if value.is_empty() => arg.action(ArgAction::SetTrue),
+            _ => arg.value_name(value),
+        };
     }
-
     match (front.strip_prefix("-"), front.strip_suffix("..")) {
         (Some("v"), _) => named(alloc, "v", help)
             .short('v')

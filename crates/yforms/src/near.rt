@@ -5,35 +5,20 @@ use std::alloc::Global;
 use std::fs;
 use std::io::{self, Write};
 use std::rt::Files;
-use yexplain::reads::Made;
 use yfaults::nearest::Search;
-
-/// The option of a form that is near to a name, where that isn't one itself.
-fn near_option<'a>(alloc: Global, form: Form, name: &'a str) -> Made<Option<&'a str>> {
-    let mut search = Search::new(name.as_bytes());
-    for option in arguments_of(form).iter().filter_map(|it| option_of(*it)) {
-        if option == name {
-            return Ok(None);
-        }
-        search.offer(alloc, option.as_bytes())?;
-    }
-    Ok(search.text())
-}
-
-/// The word of a form that is near to another word.
-fn near_form(alloc: Global, word: &str) -> Made<Option<&str>> {
-    let mut search = Search::new(word.as_bytes());
-    for form in &OTHERS {
-        search.offer(alloc, form.word().as_bytes())?;
-    }
-    Ok(search.text())
-}
 
 /// Asks whether another option was meant by an argument, where it begins as one.
 fn put_near_option<W: Write>(alloc: Global, out: &mut W, form: Form, word: &str) -> io::Result<()> {
     let name = word.strip_prefix("--").unwrap_or("");
     let name = name.split('=').next().unwrap_or(name);
-    match near_option(alloc, form, name)? {
+    let mut search = Search::new(name.as_bytes());
+    for option in arguments_of(form).iter().filter_map(|it| option_of(*it)) {
+        if option == name {
+            return Ok(());
+        }
+        search.offer(alloc, option.as_bytes())?;
+    }
+    match search.text() {
         Some(near) => {
             writeln!(
                 out,
@@ -51,7 +36,11 @@ pub fn put_near_form<F: Files + AllocGlobal, W: Write>(
     out: &mut W,
     word: &str,
 ) -> io::Result<()> {
-    match near_form(rt.alloc(), word)? {
+    let mut search = Search::new(word.as_bytes());
+    for form in &OTHERS {
+        search.offer(rt.alloc(), form.word().as_bytes())?;
+    }
+    match search.text() {
         Some(near) if !word.contains('/') && fs::metadata(rt, word).is_err() => {
             writeln!(
                 out,

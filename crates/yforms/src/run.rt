@@ -20,23 +20,6 @@ use ypage::page::run_page;
 use yrules::run::run_rules;
 use ysentences::run::run_sentences;
 
-/// Writes a text, and all that was written before it.
-fn put_now<W: Write>(out: &mut W, text: &[u8]) -> io::Result<()> {
-    out.write_all(text)?;
-    out.flush()
-}
-
-/// Writes the help or the version that was asked for.
-fn put_help<W: Write>(alloc: Global, help: &clap::Error, out: &mut W) -> Refused {
-    let Ok(text) = format!(in alloc; "{help}") else {
-        return Refused::Memory;
-    };
-    match put_now(out, text.as_bytes()) {
-        Err(error) if error.kind() == io::ErrorKind::BrokenPipe => Refused::Unread,
-        _ => Refused::Helped,
-    }
-}
-
 /// What a command line makes of words. Help or the version that they ask for is written.
 fn matches_by<'a, W: Write>(
     alloc: Global,
@@ -48,11 +31,16 @@ fn matches_by<'a, W: Write>(
         Ok(matches) => return Ok(matches),
         Err(error) => error,
     };
-    Err(match error.kind() {
-        ErrorKind::DisplayHelp | ErrorKind::DisplayVersion => put_help(alloc, &error, out),
-        ErrorKind::OutOfMemory => Refused::Memory,
-        _ => Refused::Arguments,
-    })
+    match error.kind() {
+        ErrorKind::DisplayHelp | ErrorKind::DisplayVersion => {}
+        ErrorKind::OutOfMemory => return Err(Refused::Memory),
+        _ => return Err(Refused::Arguments),
+    }
+    let text = format!(in alloc; "{error}")?;
+    match out.write_all(text.as_bytes()).and_then(|()| out.flush()) {
+        Err(error) if error.kind() == io::ErrorKind::BrokenPipe => Err(Refused::Unread),
+        _ => Err(Refused::Helped),
+    }
 }
 
 /// The words of a form after the name of the program with it, for the help text.

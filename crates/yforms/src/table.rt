@@ -3,6 +3,7 @@
 use crate::given::Given;
 use std::io::{self, ErrorKind, Read, Write};
 use std::rt::Files;
+use ybison::import::Dialect;
 use yfiles::same::refused_outputs;
 use yfolder::Disk;
 use ygenerate::generate::{GenerateFault, generate};
@@ -36,15 +37,6 @@ fn put_conflicts<E: Write>(errors: &mut E, counts: Counts) -> io::Result<()> {
 }
 
 impl<F: Files + AllocGlobal, R: Read, E: Write> Given<'_, F, R, E> {
-    /// Says what is wrong with a grammar file, and gives the exit status. Where nothing is, memory
-    /// ran out when it was read before.
-    fn put_wrong(&mut self, path: &str) -> io::Result<u8> {
-        match open_file(self.rt, GrammarFile::new(path, false), &mut self.errors)? {
-            Ok(_) => Err(io::Error::from(ErrorKind::OutOfMemory)),
-            Err(status) => Ok(status),
-        }
-    }
-
     /// The exit status where a file would be written over the grammar, or both are one file.
     fn refused_files(&mut self, asked: Asked<'_>) -> io::Result<Option<u8>> {
         let (alloc, prefix) = (self.rt.alloc(), asked.prefix);
@@ -69,7 +61,14 @@ impl<F: Files + AllocGlobal, R: Read, E: Write> Given<'_, F, R, E> {
         let (rt, path, prefix) = (self.rt, asked.grammar, asked.prefix);
         match generate(rt.alloc(), &mut Disk::new(rt), path, prefix, asked.report) {
             Ok(counts) => put_conflicts(&mut self.errors, counts).map(|()| 0),
-            Err(GenerateFault::Source(_)) => self.put_wrong(path),
+            Err(GenerateFault::Source(_)) => {
+                let dialect = Dialect::Yacc;
+                match open_file(rt, GrammarFile { path, dialect }, &mut self.errors)? {
+                    // memory ran out when the file was read before
+                    Ok(_) => Err(io::Error::from(ErrorKind::OutOfMemory)),
+                    Err(status) => Ok(status),
+                }
+            }
             Err(GenerateFault::Unopened(text) | GenerateFault::Unwritten(text)) => {
                 let ending = text.ending();
                 writeln!(self.errors, "ydebug: cannot write {prefix}{ending}")?;

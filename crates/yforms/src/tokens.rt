@@ -11,18 +11,6 @@ use yinput::language::{Language, LanguageFiles};
 use yinput::text::Text;
 use ysymbols::{Grammar, Sym};
 
-/// Writes as many newlines as stand between two tokens, or a space where none does.
-fn put_between<W: Write>(out: &mut W, between: &[u8]) -> io::Result<()> {
-    let lines = newlines(between);
-    if lines == 0 {
-        return out.write_all(b" ");
-    }
-    for _ in 0..lines {
-        out.write_all(b"\n")?;
-    }
-    Ok(())
-}
-
 /// Writes the tokens of a text, each on the line that it has there.
 fn put_tokens<W: Write>(
     out: &mut W,
@@ -34,7 +22,14 @@ fn put_tokens<W: Write>(
     for (index, (symbol, place)) in tokens.iter().zip(&text.places).enumerate() {
         let between = text.bytes.get(before..*place).unwrap_or(&[]);
         if index > 0 || between.contains(&b'\n') {
-            put_between(out, between)?;
+            // a token stands on its line of the text
+            let lines = newlines(between);
+            if lines == 0 {
+                out.write_all(b" ")?;
+            }
+            for _ in 0..lines {
+                out.write_all(b"\n")?;
+            }
         }
         let name = Name(grammar, *symbol);
         write!(out, "{name}")?;

@@ -2,10 +2,11 @@
 
 use crate::ending::Refused;
 use clap::ArgMatches;
-use ycover::elements::Kind;
+use ybison::import::Dialect;
 use yfiles::reading::{LONGEST_INPUT, Limited};
 use yinput::grammars::GrammarFile;
 use yinput::language::LanguageFiles;
+use ysentences::elements::Kind;
 use ysentences::run::Drawn;
 
 /// What is said of a folder without a name.
@@ -21,12 +22,18 @@ pub fn is_given(matches: &ArgMatches<'_>, name: &str) -> bool {
     matches.get_str(name) == Some("true")
 }
 
-/// The grammar file, and whether it is one of bison.
+/// The grammar file, and how it is read.
 pub fn grammar_in<'a>(matches: &ArgMatches<'a>) -> Result<GrammarFile<'a>, Refused> {
     let path = value_of(matches, "grammar")?;
     match matches.get_str("from") {
-        None => Ok(GrammarFile::new(path, false)),
-        Some("bison") => Ok(GrammarFile::new(path, true)),
+        None => Ok(GrammarFile {
+            path,
+            dialect: Dialect::Yacc,
+        }),
+        Some("bison") => Ok(GrammarFile {
+            path,
+            dialect: Dialect::Bison,
+        }),
         Some(_) => Err(Refused::Arguments),
     }
 }
@@ -72,12 +79,14 @@ pub fn most_of(matches: &ArgMatches<'_>) -> Result<u64, Refused> {
 }
 
 /// What stands after each `--from` of a page: `bison`, and a first position, each once at most.
-pub fn page_from(words: &[&str]) -> Result<(bool, usize), Refused> {
+pub fn page_from(words: &[&str]) -> Result<(Dialect, usize), Refused> {
     match words {
-        [] => Ok((false, 0)),
-        [word] if *word == "bison" => Ok((true, 0)),
-        [word] => Ok((false, number_in(word)?)),
-        [word, number] | [number, word] if *word == "bison" => Ok((true, number_in(number)?)),
+        [] => Ok((Dialect::Yacc, 0)),
+        [word] if *word == "bison" => Ok((Dialect::Bison, 0)),
+        [word] => Ok((Dialect::Yacc, number_in(word)?)),
+        [word, number] | [number, word] if *word == "bison" => {
+            Ok((Dialect::Bison, number_in(number)?))
+        }
         _ => Err(Refused::Arguments),
     }
 }

@@ -2,8 +2,8 @@
 use Rattle.std.specs.Prelude.{ℕ, ◌≡◌, ◌⊎◌, Bool, List, [], Option, Result, Ok, Err}
 use Rattle.ylink.specs.declared.link.Link.{Link}
 use Rattle.ytables.specs.declared.tables.Counts.{Counts}
-use Rattle.ywords.specs.declared.arguments.YaccWords.{YaccWords}
-use Rattle.ywords.specs.Arguments.{yacc_app, AreYaccWordsIn}
+use Rattle.ygenerate.specs.declared.arguments.YaccWords.{YaccWords}
+use Rattle.ygenerate.specs.Arguments.{yacc_app, AreYaccWordsIn}
 use Rattle.ygenerate.specs.declared.message.Program.TheVariants.{Yacc}
 use Rattle.ygenerate.specs.declared.message.Trouble.{Trouble}
 use Rattle.ygenerate.specs.declared.message.Trouble.TheVariants.{NoMemory, CannotWrite}

@@ -3,3 +3,4 @@ pub mod Written
 pub mod Messages
 pub mod Programs
 pub mod Generating
+pub mod Arguments

@@ -6,6 +6,7 @@ ghost use Rattle.ylink.specs.Sends.{Sends};
 ghost use Rattle.ygenerate.specs.Generating.{Asks, EndsIn, PassesOn, Runs, said_of};
 ghost use Rattle.yfolder.specs.Disk.{disk_over};
 
+use crate::arguments::{YaccWords, yacc_words};
 use crate::generate::generate;
 use crate::message::{Program, Trouble, put_conflicts, put_help};
 use clap::error::ErrorKind;
@@ -14,7 +15,6 @@ use std::io::Write;
 use std::rt::Files;
 use yfolder::{Disk, Folder};
 use ytables::{Counts, Link};
-use ywords::arguments::{YaccWords, yacc_words};
 
 /// What the words of `yacc` ask for.
 enum Request<'a> {

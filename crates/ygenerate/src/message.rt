@@ -9,6 +9,7 @@ ghost use Rattle.ygenerate.specs.Messages.{message_line, name_of, usage_of};
 ghost use Rattle.ygenerate.specs.Generating.{IsGenerating};
 ghost use Rattle.ygenerate.specs.Programs.{SaysSome, of_source, status};
 
+use crate::arguments::YaccWords;
 use crate::generate::GenerateFault;
 use crate::source::SourceFault;
 use std::io::Write;
@@ -18,7 +19,6 @@ use ylink::pieces::Piece::{Number, Words};
 use ylink::pieces::{END, put_pieces};
 use ylink::put::put;
 use ytables::{Counts, Link};
-use ywords::arguments::YaccWords;
 
 /// One of the programs.
 #[derive(Clone, Copy, PartialEq, Eq)]

@@ -16,8 +16,8 @@ pub use Rattle.ysymbols.specs.Names
 pub use Rattle.ysyntax.specs.Lexer
 pub use Rattle.ysyntax.specs.Tree
 pub use Rattle.ysyntax.specs.Sites
-pub use Rattle.ysourcemap.specs.Roles
-pub use Rattle.ysourcemap.specs.Map as SourceMaps
+pub use Rattle.ysyntax.specs.Roles
+pub use Rattle.ysyntax.specs.Map as SourceMaps
 pub use Rattle.ydeclarations.specs.Printed
 pub use Rattle.ydeclarations.specs.Elaboration
 pub use Rattle.ydeclarations.specs.Mistakes

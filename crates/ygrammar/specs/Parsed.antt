@@ -11,7 +11,7 @@ use Rattle.ysyntax.specs.SiteViews.{marks_in, tree_sites}
 use Rattle.ysyntax.specs.Tree.{Tree, yield}
 use Rattle.ysyntax.specs.TreeTexts.{RuleTextStands}
 use Rattle.ysyntax.specs.TreeViews.{tree_view}
-use Rattle.ysourcemap.specs.Map.{AreMarksOf}
+use Rattle.ysyntax.specs.Map.{AreMarksOf}
 use Rattle.ydeclarations.specs.Places.{AllAt, IsBarren}
 use Rattle.ygrammar.specs.declared.parsed.Parsed.{Parsed}
 use Rattle.ygrammar.specs.declared.reader.Mapped.{Mapped}

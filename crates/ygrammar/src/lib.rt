@@ -16,7 +16,7 @@ mod tokens;
 mod unmarked;
 
 pub use reader::{Mapped, read_grammar, read_mapped, read_placed};
-pub use ysourcemap::{Mark, Role};
 pub use ysymbols::limits::LONGEST_FILE;
 pub use ysymbols::{Associativity, Grammar, Precedence, Rule, Sym};
 pub use ysyntax::fault::{GrammarFault, PlacedFault};
+pub use ysyntax::{Mark, Role};

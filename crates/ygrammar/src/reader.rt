@@ -19,9 +19,9 @@ use crate::elaboration::{barren_lefts, elaborate};
 use crate::lines::in_file;
 use crate::parsed::{Parsed, read_parsed};
 use std::alloc::{AllocError, Global};
-use ysourcemap::{Mark, map_of};
 use ysymbols::Grammar;
 use ysyntax::fault::{GrammarFault, PlacedFault};
+use ysyntax::{Mark, map_of};
 
 /// The grammar of a parsed file, or the first mistake in what it means.
 fn meaning(alloc: Global, source: &[u8], parsed: &Parsed) -> Result<Grammar, PlacedFault>

@@ -97,17 +97,6 @@ impl<'a> Page<'a> {
         }
     }
 
-    /// Leaves a part out up to a place.
-    fn leave_out(&mut self, part: &[u8], to: usize) {
-        self.keep_lines(part);
-        let before = self.out.last().copied().unwrap_or(b'\n');
-        let next = self.source.get(to).copied().unwrap_or(b'\n');
-        if is_name_byte(before) && is_name_byte(next) {
-            self.trouble.append(&mut self.out, b" ");
-        }
-        self.passing = is_blank(before);
-    }
-
     /// Makes one change.
     fn make(&mut self, edit: &Edit, texts: &[u8]) {
         self.copy_to(edit.from);
@@ -119,7 +108,15 @@ impl<'a> Page<'a> {
                 self.keep_lines(part);
                 self.passing = false;
             }
-            _ => self.leave_out(part, edit.to),
+            _ => {
+                self.keep_lines(part);
+                let before = self.out.last().copied().unwrap_or(b'\n');
+                let next = self.source.get(edit.to).copied().unwrap_or(b'\n');
+                if is_name_byte(before) && is_name_byte(next) {
+                    self.trouble.append(&mut self.out, b" ");
+                }
+                self.passing = is_blank(before);
+            }
         }
         self.at = edit.to;
     }

@@ -111,22 +111,20 @@ impl Work<'_> {
         }
     }
 
-    /// Takes in `%empty`, after which one action may come.
-    fn import_empty(&mut self, place: &Place, around: Around<'_>) {
-        let (symbols, actions) = counts(around.after);
-        if place.filled || symbols > 0 || actions > 1 {
-            self.edits.refuse(Refusal::NotEmpty, around.lexeme);
-        } else {
-            self.edits.take_out(around.lexeme, Reason::EmptyWord);
-        }
-    }
-
     /// Takes in a percent word of a body.
     fn import_word(&mut self, place: &mut Place, around: Around<'_>) {
         let lexeme = around.lexeme;
         match directive_of(lexeme.text(self.source)) {
             Directive::Prec => self.import_prec(place, around),
-            Directive::Empty => self.import_empty(place, around),
+            Directive::Empty => {
+                // one action may come after it
+                let (symbols, actions) = counts(around.after);
+                if place.filled || symbols > 0 || actions > 1 {
+                    self.edits.refuse(Refusal::NotEmpty, lexeme);
+                } else {
+                    self.edits.take_out(lexeme, Reason::EmptyWord);
+                }
+            }
             _ if around.is_before(Kind::Number) => self.edits.take_out(lexeme, Reason::Expected),
             _ => self.edits.refuse(Refusal::Misplaced, lexeme),
         }

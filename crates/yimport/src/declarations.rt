@@ -41,16 +41,6 @@ impl Work<'_> {
         }
     }
 
-    /// Refuses the skeleton of another kind of parser.
-    fn refuse_skeleton(&mut self, rest: &[Lexeme]) {
-        for lexeme in rest {
-            let mut parts = lexeme.text(self.source).windows(3);
-            if lexeme.kind == Kind::Text && parts.any(|part| part == b"glr".as_slice()) {
-                self.edits.refuse(Refusal::OtherParser, lexeme);
-            }
-        }
-    }
-
     /// Takes out a directive of bison or byacc.
     fn import_aside(&mut self, directive: Directive, word: &Lexeme, rest: &[Lexeme]) {
         self.refuse_others(rest, directive);
@@ -65,7 +55,12 @@ impl Work<'_> {
             }
             Directive::Define => self.definition_reason(rest),
             Directive::Skeleton => {
-                self.refuse_skeleton(rest);
+                for lexeme in rest {
+                    let mut parts = lexeme.text(self.source).windows(3);
+                    if lexeme.kind == Kind::Text && parts.any(|part| part == b"glr".as_slice()) {
+                        self.edits.refuse(Refusal::OtherParser, lexeme);
+                    }
+                }
                 Reason::ForItsParser
             }
             _ => Reason::ForItsParser,

@@ -181,22 +181,18 @@ impl<'a> Edits<'a> {
         let text = self.source.get(from.saturating_add(2)..to).unwrap_or(&[]);
         let start = self.texts.len();
         self.write(b"/*");
-        self.write_comment(text);
-        self.write(b" */");
-        self.edit(from, to, start);
-        let how = How::Becomes(start, self.texts.len());
-        self.note(remark, how, Reason::Remark);
-    }
-
-    /// Writes the text of a comment, with a blank where it would end.
-    fn write_comment(&mut self, text: &[u8]) {
         let mut before = 0u8;
         for b in text {
             if before == b'*' && *b == b'/' {
+                // the comment would end here
                 self.write(b" ");
             }
             self.write(&[*b]);
             before = *b;
         }
+        self.write(b" */");
+        self.edit(from, to, start);
+        let how = How::Becomes(start, self.texts.len());
+        self.note(remark, how, Reason::Remark);
     }
 }

@@ -75,24 +75,18 @@ impl Work<'_> {
         }
     }
 
-    /// Takes in all groups of a file.
-    fn import_groups(&mut self, lexemes: &[Lexeme]) -> Result<(), Trouble> {
-        let groups = groups_of(self.alloc, self.source, lexemes)?;
-        self.survey.fill(self.alloc, self.source, &groups)?;
-        for group in &groups {
-            self.import_group(group);
-        }
-        self.list_loners(&groups)?;
-        Ok(())
-    }
-
     /// Takes in the file, which has these lexemes, and makes the changes, unless there was a
     /// trouble.
     fn run(&mut self, lexemes: &Lexemes) -> Result<(), Trouble> {
         for remark in &lexemes.remarks {
             self.edits.close_remark(*remark);
         }
-        self.import_groups(&lexemes.all)?;
+        let groups = groups_of(self.alloc, self.source, &lexemes.all)?;
+        self.survey.fill(self.alloc, self.source, &groups)?;
+        for group in &groups {
+            self.import_group(group);
+        }
+        self.list_loners(&groups)?;
         self.edits.insert_moved();
         self.edits.trouble.checked()?;
         self.changed = applied(self.alloc, &mut self.edits)?;

@@ -36,39 +36,27 @@ fn written(directive: Directive, text: &[u8]) -> &[u8] {
     }
 }
 
-/// Whether a tag holds a name of `yacc`.
-fn is_plain(tag: &[u8]) -> bool {
-    match tag {
-        [b'<', first, rest @ .., b'>'] => {
-            is_name_start(*first) && rest.iter().all(|b| is_name_byte(*b))
-        }
-        _ => false,
-    }
-}
-
 impl Work<'_> {
-    /// Writes a tag with a name in place of what stands in it.
-    fn write_named_tag(&mut self, tag: &[u8]) {
-        self.edits.write(b"<_");
-        for b in tag.get(1..tag.len().saturating_sub(1)).unwrap_or(&[]) {
-            let byte = if is_name_byte(*b) { *b } else { b'_' };
-            self.edits.write(&[byte]);
-        }
-        self.edits.write(b">");
-    }
-
     /// Keeps a tag: the first of its list, with a name in it.
     pub fn keep_tag(&mut self, lexeme: &Lexeme, is_first: bool) {
         let text = lexeme.text(self.source);
         if !is_first {
             self.edits.take_out(lexeme, Reason::SecondTag);
-        } else if is_plain(text) {
-            self.edits.keep(lexeme);
-        } else {
-            let start = self.edits.texts.len();
-            self.write_named_tag(text);
-            self.edits.replace(lexeme, start, Reason::OddTag);
+            return;
         }
+        let inner = text.get(1..text.len().saturating_sub(1)).unwrap_or(&[]);
+        let is_named = inner.first().map_or(false, |b| is_name_start(*b));
+        if is_named && inner.iter().all(|b| is_name_byte(*b)) {
+            return self.edits.keep(lexeme);
+        }
+        let start = self.edits.texts.len();
+        self.edits.write(b"<_");
+        for b in inner {
+            let byte = if is_name_byte(*b) { *b } else { b'_' };
+            self.edits.write(&[byte]);
+        }
+        self.edits.write(b">");
+        self.edits.replace(lexeme, start, Reason::OddTag);
     }
 
     /// Keeps the word of a directive, or writes that of `yacc`.

@@ -25,37 +25,8 @@ fn byte_of(source: &[u8], lexeme: &Lexeme) -> Option<usize> {
     Some(usize::from(byte))
 }
 
-/// Whether `yacc` takes the literals of a group as tokens.
-fn is_listing(head: Head) -> bool {
-    match head {
-        Head::Left | Head::Bar => true,
-        Head::Word(directive) => directive.lists_tokens(),
-        _ => false,
-    }
-}
-
-/// Whether bison takes the literals of a group as tokens, and `yacc` doesn't read it.
-fn is_aside(head: Head) -> bool {
-    match head {
-        Head::Word(Directive::Type | Directive::Nterm) => true,
-        Head::Word(directive) => directive == Directive::Aside(Shape::BracesAndSymbols),
-        _ => false,
-    }
-}
-
 impl Work<'_> {
-    /// Lists a literal as a token.
-    fn list_loner(&mut self, lexeme: &Lexeme) {
-        match other_name(self.alloc, self.source, lexeme) {
-            Ok(Some((name, _))) => self.edits.list_made(&name),
-            Ok(None) => self.edits.list_made(lexeme.text(self.source)),
-            Err(_) => self.edits.trouble.remember(Trouble::Memory),
-        }
-        self.edits
-            .note(lexeme.span, How::ToMark, Reason::TypedToken);
-    }
-
-    /// Notes the literals of a group, and lists those that are new where `lists`.
+    /// Notes the literals of a group, and lists those that are new as tokens where `lists`.
     fn see_literals(&mut self, group: &Group<'_>, known: &mut Vec<bool>, lists: bool) {
         for lexeme in group.lexemes {
             let byte = byte_of(self.source, lexeme);
@@ -63,7 +34,13 @@ impl Work<'_> {
                 continue;
             };
             if lists && !*seen {
-                self.list_loner(lexeme);
+                match other_name(self.alloc, self.source, lexeme) {
+                    Ok(Some((name, _))) => self.edits.list_made(&name),
+                    Ok(None) => self.edits.list_made(lexeme.text(self.source)),
+                    Err(_) => self.edits.trouble.remember(Trouble::Memory),
+                }
+                self.edits
+                    .note(lexeme.span, How::ToMark, Reason::TypedToken);
             }
             *seen = true;
         }
@@ -73,12 +50,24 @@ impl Work<'_> {
     pub fn list_loners(&mut self, groups: &[Group<'_>]) -> Result<(), AllocError> {
         let mut known = vec![in self.alloc; false; BYTES]?;
         for group in groups {
-            if is_listing(group.head) {
+            // there `yacc` takes literals as tokens
+            let is_listing = match group.head {
+                Head::Left | Head::Bar => true,
+                Head::Word(directive) => directive.lists_tokens(),
+                _ => false,
+            };
+            if is_listing {
                 self.see_literals(group, &mut known, false);
             }
         }
         for group in groups {
-            if is_aside(group.head) {
+            // there bison does, and `yacc` doesn't read them
+            let is_aside = match group.head {
+                Head::Word(Directive::Type | Directive::Nterm) => true,
+                Head::Word(directive) => directive == Directive::Aside(Shape::BracesAndSymbols),
+                _ => false,
+            };
+            if is_aside {
                 self.see_literals(group, &mut known, true);
             }
         }

@@ -36,15 +36,6 @@ impl Drop for Spelling {
     }
 }
 
-/// A name with lines below in place of its dashes.
-fn without_dashes(alloc: Global, name: &[u8]) -> Result<Vec<u8>, AllocError> {
-    let mut plain = Vec::from_slice(alloc, name)?;
-    for b in plain.iter_mut() {
-        *b = if *b == b'-' { b'_' } else { *b };
-    }
-    Ok(plain)
-}
-
 /// The name of a symbol that is no string, where `yacc` spells it otherwise, and the reason.
 pub fn other_name(
     alloc: Global,
@@ -62,7 +53,11 @@ pub fn other_name(
             Ok(Some((Vec::from_slice(alloc, b"error")?, Reason::ErrorName)))
         }
         Kind::Name if text.contains(&b'-') => {
-            Ok(Some((without_dashes(alloc, text)?, Reason::Dash)))
+            let mut plain = Vec::from_slice(alloc, text)?;
+            for b in plain.iter_mut() {
+                *b = if *b == b'-' { b'_' } else { *b };
+            }
+            Ok(Some((plain, Reason::Dash)))
         }
         _ => Ok(None),
     }

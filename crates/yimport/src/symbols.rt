@@ -125,19 +125,16 @@ impl<'a> Work<'a> {
         }
     }
 
-    /// Notes the name that another one without dashes became, if no other name is spelled so.
+    /// Notes the name that another one without dashes became, if no other name is spelled or was
+    /// renamed so.
     fn rename(&mut self, name: Vec<u8>, lexeme: &Lexeme) {
-        if is_among(&self.survey.names, &name) || self.is_other(&name, lexeme) {
+        let (source, before) = (self.source, self.renamed.get(&name));
+        let is_other = before.map_or(false, |it| it.text(source) != lexeme.text(source));
+        if is_other || is_among(&self.survey.names, &name) {
             self.edits.refuse(Refusal::NameTaken, lexeme);
         } else if self.renamed.insert(name, *lexeme).is_err() {
             self.edits.trouble.remember(Trouble::Memory);
         }
-    }
-
-    /// Whether another name than this one was renamed so.
-    fn is_other(&self, name: &[u8], lexeme: &Lexeme) -> bool {
-        let (source, before) = (self.source, self.renamed.get(name));
-        before.map_or(false, |before| before.text(source) != lexeme.text(source))
     }
 
     /// Writes a symbol that is no string, where its spelling is another one, and gives the reason.
@@ -190,16 +187,6 @@ impl<'a> Work<'a> {
         number
     }
 
-    /// Writes the name made for a string.
-    fn write_made(&mut self, key: &[u8], text: &Lexeme) {
-        let number = match self.made.get(key) {
-            Some(made) => made.number,
-            None => self.make_name(key, text),
-        };
-        let name = self.made_name(number);
-        self.edits.write(&name);
-    }
-
     /// Writes the token that a string is, and gives the reason.
     fn spell_text(&mut self, text: &Lexeme) -> Reason {
         if let Some(token) = self.survey.alias(self.source, text) {
@@ -210,7 +197,12 @@ impl<'a> Work<'a> {
         }
         let key = unbroken(self.alloc, inside(self.source, text));
         let key = self.made_or_trouble(key);
-        self.write_made(&key, text);
+        let number = match self.made.get(&key) {
+            Some(made) => made.number,
+            None => self.make_name(&key, text),
+        };
+        let name = self.made_name(number);
+        self.edits.write(&name);
         if key.len() == 1 {
             Reason::MadeSign
         } else {

@@ -20,15 +20,6 @@ impl Work<'_> {
         }
     }
 
-    /// Whether a nonterminal with a tag is listed.
-    fn has_nonterminal(&self, rest: &[Lexeme]) -> bool {
-        match rest {
-            [tag, listed @ ..] if tag.kind == Kind::Tag => listed.iter().any(|it| is_symbol(it.kind)
-                && self.reason_against(it).is_none()),
-            _ => false,
-        }
-    }
-
     /// Takes in one lexeme of a list that stays.
     fn import_typed(&mut self, lexeme: &Lexeme, at: usize) {
         match lexeme.kind {
@@ -68,23 +59,19 @@ impl Work<'_> {
         }
     }
 
-    /// Refuses names of tokens in a list of what are none.
-    fn refuse_tokens(&mut self, rest: &[Lexeme]) {
-        for lexeme in rest {
-            let name = lexeme.text(self.source);
-            if lexeme.kind == Kind::Name && is_among(&self.survey.tokens, name) {
-                self.edits.refuse(Refusal::TokenNonterminal, lexeme);
-            }
-        }
-    }
-
     /// Takes in a list of nonterminals.
     pub fn import_types(&mut self, directive: Directive, word: &Lexeme, rest: &[Lexeme]) {
         self.refuse_others(rest, directive);
-        if directive == Directive::Nterm {
-            self.refuse_tokens(rest);
+        let mut has_nonterminal = false;
+        for (at, lexeme) in rest.iter().enumerate() {
+            let is_token = is_among(&self.survey.tokens, lexeme.text(self.source));
+            if directive == Directive::Nterm && lexeme.kind == Kind::Name && is_token {
+                self.edits.refuse(Refusal::TokenNonterminal, lexeme);
+            }
+            let is_listed = at > 0 && is_symbol(lexeme.kind);
+            has_nonterminal |= is_listed && self.reason_against(lexeme).is_none();
         }
-        if !self.has_nonterminal(rest) {
+        if !has_nonterminal || rest.first().map_or(true, |tag| tag.kind != Kind::Tag) {
             return self.take_all(word, rest, Reason::NoType);
         }
         self.keep_word(word, directive);

@@ -4,11 +4,11 @@ use crate::grammars::GrammarFile;
 use std::alloc::Global;
 use std::io::{self, ErrorKind, Write};
 use std::rt::Files;
-use yexplain::lines::Spot;
 use yexplain::reads::{Made, grammar_of};
 use yexplain::text::{Escaped, Name};
-use yfaults::opening::{Opened, put_near_token, put_token_fault};
-use yfaults::shown::Place;
+use yfaults::opening::{Opened, file_fault};
+use yfiles::diagnostic::{Diagnostic, Diagnostics};
+use yfiles::place::{Place, Spot};
 use yfiles::reading::Limited;
 use ylex::fault::Wrong;
 use yparse::TokenFault;
@@ -47,47 +47,47 @@ pub struct Fault {
     what: What,
 }
 
-/// Writes that no line of a SPEC gives a token, with its place in the grammar file.
-fn put_ungiven<W: Write>(
-    out: &mut W,
+/// That no line of a SPEC gives a token, with its place in the grammar file.
+fn ungiven(
+    alloc: Global,
     spec: &str,
     grammar: GrammarFile<'_>,
     opened: &Opened,
     token: Sym,
-) -> io::Result<()> {
+) -> io::Result<Diagnostic> {
     let mut mentions = opened.lines.mentions().iter();
     let mention = mentions.find(|it| it.symbol == token);
     let first = mention.map_or(Spot::of_line(1), |it| it.spot);
-    let (path, spot) = (grammar.path, first.told(grammar.columns));
     let name = Name(grammar_of(&opened.tables), token);
-    writeln!(
-        out,
-        "{path}:{spot}: {name}: no line of {spec} gives this token; write one, or name it after \
-         %none"
-    )
+    let mut one = Diagnostic::new(alloc, Some(grammar.path), Some(first))?;
+    write!(
+        one.message,
+        "{name}: no line of {spec} gives this token; write one, or name it after %none"
+    )?;
+    Ok(one)
 }
 
-/// Writes the place of what isn't cut from a text, what is wrong there, and the first bytes up to
-/// the end of its line; a newline where the line ends there.
-fn put_bytes_at<W: Write>(out: &mut W, place: Place<'_>, what: &str) -> io::Result<()> {
+/// What is wrong at a place of a text, and the first bytes there up to the end of the line; a
+/// newline where the line ends there.
+fn fault_at(alloc: Global, place: Place<'_>, what: &str) -> io::Result<Diagnostic> {
     let rest = place.source.get(place.at..).unwrap_or(&[]);
     let newline = rest.iter().skip(1).position(|b| *b == b'\n');
     let end = newline.map_or(rest.len(), |count| count.saturating_add(1));
     let shown = Escaped(rest.get(..end.min(MOST_BYTES)).unwrap_or(rest));
     let more = if end > MOST_BYTES { ".." } else { "" };
-    place.put_front(out)?;
-    writeln!(out, "{what}: {shown}{more}")?;
-    place.put_text(out, true)
+    let mut one = Diagnostic::at(alloc, place, true)?;
+    write!(one.message, "{what}: {shown}{more}")?;
+    Ok(one)
 }
 
-/// Writes that no line of a SPEC matches at a place of a text, with the line there.
-pub fn put_unmatched<W: Write>(out: &mut W, place: Place<'_>) -> io::Result<()> {
-    put_bytes_at(out, place, "no line of the SPEC matches here")
+/// That no line of a SPEC matches at a place of a text.
+pub fn unmatched(alloc: Global, place: Place<'_>) -> io::Result<Diagnostic> {
+    fault_at(alloc, place, "no line of the SPEC matches here")
 }
 
-/// Writes that a token too many begins at a place of a text, with the line there.
-pub fn put_too_many<W: Write>(out: &mut W, place: Place<'_>) -> io::Result<()> {
-    put_bytes_at(out, place, "more than 1,000,000 tokens; this is one more")
+/// That a token too many begins at a place of a text.
+pub fn too_many(alloc: Global, place: Place<'_>) -> io::Result<Diagnostic> {
+    fault_at(alloc, place, "more than 1,000,000 tokens; this is one more")
 }
 
 impl Fault {
@@ -136,57 +136,70 @@ impl Fault {
         }
     }
 
-    /// Writes what is wrong with a line of a SPEC.
-    fn put_line<W: Write>(&self, out: &mut W, at: usize, wrong: Wrong) -> io::Result<()> {
-        let front = match wrong {
-            Wrong::Expression(_) => "the expression doesn't compile: ",
-            _ => "",
-        };
-        let what = wrong.text();
-        self.place(at).put_front(out)?;
-        writeln!(out, "{front}{what}")?;
-        self.place(at).put_text(out, true)
+    /// What is wrong with a line of a SPEC.
+    fn line_fault(&self, alloc: Global, at: usize, wrong: Wrong) -> io::Result<Diagnostic> {
+        let place = self.place(at);
+        let mut one = Diagnostic::at(alloc, place, true)?;
+        if matches!(wrong, Wrong::Expression(_)) {
+            one.say("the expression doesn't compile: ")?;
+        }
+        one.say(wrong.text())?;
+        Ok(one)
     }
 
-    /// Writes the fault of a tokens file, and which token could be meant.
-    fn put_token<W: Write>(
+    /// What is wrong, with its place and the text there. The grammar of the language is open, and
+    /// this is its file.
+    fn diagnostic<F: Files + AllocGlobal>(
         &self,
-        alloc: Global,
-        out: &mut W,
+        rt: &F,
+        file: GrammarFile<'_>,
         opened: &Opened,
-        fault: TokenFault,
-        columns: bool,
-    ) -> io::Result<()> {
-        let grammar = grammar_of(&opened.tables);
-        put_token_fault(out, (&self.path, &self.bytes), fault, columns)?;
-        put_near_token(out, alloc, grammar, &self.bytes, fault)
+    ) -> io::Result<Diagnostic> {
+        let (alloc, path, most) = (rt.alloc(), self.path.as_str(), self.most);
+        match self.what {
+            What::Unread => {
+                let mut one = Diagnostic::new(alloc, Some(path), None)?;
+                one.say("cannot read it")?;
+                Ok(one)
+            }
+            What::Long => Limited { path, most }.too_long(rt, true),
+            What::LongSpec => Limited { path, most }.too_long(rt, false),
+            What::Tokens(fault) => {
+                let (grammar, source) = (grammar_of(&opened.tables), (path, self.bytes.as_slice()));
+                file_fault(alloc, grammar, source, fault)
+            }
+            What::Unmatched(at) => unmatched(alloc, self.place(at)),
+            What::TooMany(at) => too_many(alloc, self.place(at)),
+            What::Spec(at, wrong) => self.line_fault(alloc, at, wrong),
+            What::Ungiven(token) => ungiven(alloc, path, file, opened, token),
+        }
     }
 
-    /// Writes what is wrong, with its place and the text there, for people, and gives the exit
-    /// status. The grammar of the language is open, and this is its file.
+    /// Says what is wrong, and gives the exit status. The grammar of the language is open, and this
+    /// is its file.
+    pub fn tell<F: Files + AllocGlobal>(
+        &self,
+        rt: &F,
+        told: &mut Diagnostics,
+        file: GrammarFile<'_>,
+        opened: &Opened,
+    ) -> io::Result<u8> {
+        told.add(self.diagnostic(rt, file, opened)?)?;
+        Ok(self.status())
+    }
+
+    /// Writes what is wrong for people, and gives the exit status.
     pub fn put<F: Files + AllocGlobal, W: Write>(
         &self,
         rt: &F,
         out: &mut W,
-        grammar: GrammarFile<'_>,
+        file: GrammarFile<'_>,
         opened: &Opened,
     ) -> io::Result<u8> {
-        let path = self.path.as_str();
-        let most = self.most;
-        let written = match self.what {
-            What::Unread => writeln!(out, "{path}: cannot read it"),
-            What::Long => Limited { path, most }.put_long_input(rt, out),
-            What::LongSpec => Limited { path, most }.put_long(rt, out),
-            What::Tokens(fault) => {
-                self.put_token(rt.alloc(), out, opened, fault, grammar.columns)
-            }
-            What::Unmatched(at) => put_unmatched(out, self.place(at)),
-            What::TooMany(at) => put_too_many(out, self.place(at)),
-            What::Spec(at, wrong) => self.put_line(out, at, wrong),
-            What::Ungiven(token) => put_ungiven(out, path, grammar, opened, token),
-        };
-        written?;
-        Ok(self.status())
+        let mut told = Diagnostics::new(rt.alloc());
+        let status = self.tell(rt, &mut told, file, opened)?;
+        told.put(out, "ydebug")?;
+        Ok(status)
     }
 
     /// Writes what is wrong as a plain line, and gives the exit status.
@@ -196,8 +209,8 @@ impl Fault {
             What::Unread => writeln!(out, "{path}: cannot read it"),
             What::Tokens(fault) => writeln!(out, "{path}: {fault}"),
             What::Unmatched(at) | What::TooMany(at) | What::Spec(at, _) => {
-                let (line, column) = self.place(at).spot();
-                writeln!(out, "{path}: refused at {line}:{column}")
+                let spot = self.place(at).spot();
+                writeln!(out, "{path}: refused at {spot}")
             }
             What::Long | What::LongSpec => writeln!(out, "{path}: too long"),
             What::Ungiven(_) => writeln!(out, "{path}: a token is missing"),

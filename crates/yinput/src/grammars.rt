@@ -5,11 +5,12 @@ use std::alloc::Global;
 use std::io::{self, Write};
 use std::mem;
 use std::rt::Files;
-use ybison::import::{Foreign, open_foreign};
+use ybison::import::{Dialect, Foreign, Read, open_grammar};
 use ybison::notes::Source;
-use ybison::opening::open_text;
 use yexplain::reads::{Made, body_of, grammar_of, set};
-use yfaults::opening::{Opened, grammar_bytes, put_unread};
+use yfaults::opening::{Opened, grammar_bytes};
+use yfiles::diagnostic::Diagnostics;
+use yfiles::reading::unread;
 use ysymbols::Grammar;
 
 /// A grammar file.
@@ -17,31 +18,8 @@ use ysymbols::Grammar;
 pub struct GrammarFile<'a> {
     /// Its path.
     pub path: &'a str,
-    /// Whether it is one of bison or byacc.
-    pub bison: bool,
-    /// Whether places in it and in inputs have their columns.
-    pub columns: bool,
-}
-
-impl<'a> GrammarFile<'a> {
-    /// That of a path, of yacc or of bison, whose places have their lines alone.
-    pub fn new(path: &'a str, bison: bool) -> GrammarFile<'a> {
-        GrammarFile {
-            path,
-            bison,
-            columns: false,
-        }
-    }
-
-    /// The file of these bytes.
-    fn source(self, bytes: &'a [u8]) -> Source<'a> {
-        let GrammarFile { path, columns, .. } = self;
-        Source {
-            path,
-            bytes,
-            columns,
-        }
-    }
+    /// How it is read.
+    pub dialect: Dialect,
 }
 
 /// A grammar file that is open: the text that `yacc` reads, and what that comes to.
@@ -72,32 +50,44 @@ fn text_of(alloc: Global, source: &[u8], foreign: Foreign) -> Made<GrammarText> 
     })
 }
 
-/// Opens a grammar file with its text. Where it is refused, that is written, and the exit status is
+/// Opens a grammar file with its text. Where it is refused, that is said, and the exit status is
 /// the answer.
+pub fn open_told<F: Files + AllocGlobal>(
+    rt: &F,
+    file: GrammarFile<'_>,
+    told: &mut Diagnostics,
+) -> io::Result<Result<GrammarText, u8>> {
+    let (alloc, path) = (rt.alloc(), file.path);
+    let bytes = match grammar_bytes(rt, path) {
+        Ok(bytes) => bytes,
+        Err(error) => return unread(alloc, told, path, error).map(Err),
+    };
+    let source = Source {
+        path,
+        bytes: &bytes,
+    };
+    match open_grammar(alloc, told, source, file.dialect)? {
+        Ok(Read::Plain(opened)) => Ok(Ok(GrammarText {
+            bytes,
+            opened,
+            spelled: Spelled::none(alloc),
+        })),
+        Ok(Read::Foreign(foreign)) => Ok(Ok(text_of(alloc, &bytes, foreign)?)),
+        Err(status) => Ok(Err(status)),
+    }
+}
+
+/// Opens a grammar file with its text. What is said of it is written; where it is refused, the exit
+/// status is the answer.
 pub fn open_with_text<F: Files + AllocGlobal, E: Write>(
     rt: &F,
     file: GrammarFile<'_>,
     errors: &mut E,
 ) -> io::Result<Result<GrammarText, u8>> {
-    let (alloc, path) = (rt.alloc(), file.path);
-    let bytes = match grammar_bytes(rt, path) {
-        Ok(bytes) => bytes,
-        Err(error) => return put_unread(errors, path, error).map(Err),
-    };
-    if !file.bison {
-        return match open_text(alloc, file.source(&bytes), errors)? {
-            Ok(opened) => Ok(Ok(GrammarText {
-                bytes,
-                opened,
-                spelled: Spelled::none(alloc),
-            })),
-            Err(status) => Ok(Err(status)),
-        };
-    }
-    match open_foreign(alloc, errors, file.source(&bytes))? {
-        Ok(foreign) => Ok(Ok(text_of(alloc, &bytes, foreign)?)),
-        Err(status) => Ok(Err(status)),
-    }
+    let mut told = Diagnostics::new(rt.alloc());
+    let opened = open_told(rt, file, &mut told)?;
+    told.put(errors, "ydebug")?;
+    Ok(opened)
 }
 
 /// Opens a grammar file likewise, without its text.

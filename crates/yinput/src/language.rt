@@ -1,7 +1,7 @@
 //! A grammar with what cuts texts into its tokens, and the inputs that it reads.
 
 use crate::fault::{Fault, What};
-use crate::grammars::{GrammarFile, GrammarText, open_with_text};
+use crate::grammars::{GrammarFile, GrammarText, open_told};
 use crate::spec::read_lexer;
 use crate::spelled::{Spelled, Spoken};
 use crate::text::Text;
@@ -10,6 +10,7 @@ use std::io::{self, ErrorKind, Write};
 use std::rt::Files;
 use yexplain::reads::{Made, grammar_of};
 use yfaults::opening::Opened;
+use yfiles::diagnostic::Diagnostics;
 use yfiles::reading::Limited;
 use ylex::fault::TextFault;
 use ylex::lexer::{Lexed, Lexer};
@@ -23,18 +24,6 @@ pub struct LanguageFiles<'a> {
     pub grammar: GrammarFile<'a>,
     /// The path of the SPEC by which texts are cut; without one, inputs are tokens files.
     pub spec: Option<&'a str>,
-}
-
-impl<'a> LanguageFiles<'a> {
-    /// The same files, whose places have their columns.
-    pub fn with_columns(self) -> LanguageFiles<'a> {
-        let LanguageFiles { grammar, spec } = self;
-        let grammar = GrammarFile {
-            columns: true,
-            ..grammar
-        };
-        LanguageFiles { grammar, spec }
-    }
 }
 
 /// A grammar that is open, and what cuts its texts, where a SPEC is given.
@@ -110,14 +99,14 @@ fn read(
 }
 
 impl Language {
-    /// Opens a grammar file, and the SPEC for it. Where one is refused, that is written, and the
-    /// exit status is the answer.
-    pub fn open<F: Files + AllocGlobal, E: Write>(
+    /// Opens a grammar file, and the SPEC for it. Where one is refused, that is said, and the exit
+    /// status is the answer.
+    pub fn open_told<F: Files + AllocGlobal>(
         rt: &F,
         files: LanguageFiles<'_>,
-        errors: &mut E,
+        told: &mut Diagnostics,
     ) -> io::Result<Result<Language, u8>> {
-        let language = match open_with_text(rt, files.grammar, errors)? {
+        let language = match open_told(rt, files.grammar, told)? {
             Ok(text) => Language::of_text(text),
             Err(status) => return Ok(Err(status)),
         };
@@ -127,9 +116,22 @@ impl Language {
         match read_lexer(rt, &language.opened.tables, spec)? {
             Ok(lexer) => Ok(Ok(language.with_lexer(rt.alloc(), lexer)?)),
             Err(fault) => fault
-                .put(rt, errors, files.grammar, &language.opened)
+                .tell(rt, told, files.grammar, &language.opened)
                 .map(Err),
         }
+    }
+
+    /// Opens both. What is said of them is written; where one is refused, the exit status is the
+    /// answer.
+    pub fn open<F: Files + AllocGlobal, E: Write>(
+        rt: &F,
+        files: LanguageFiles<'_>,
+        errors: &mut E,
+    ) -> io::Result<Result<Language, u8>> {
+        let mut told = Diagnostics::new(rt.alloc());
+        let opened = Language::open_told(rt, files, &mut told)?;
+        told.put(errors, "ydebug")?;
+        Ok(opened)
     }
 
     /// A grammar whose inputs are tokens files.

@@ -1,6 +1,6 @@
 //! The text that tokens were read from.
 
-use yfaults::shown::Place;
+use yfiles::place::Place;
 use ysymbols::let_go;
 
 /// A text from which tokens were read.

@@ -4,13 +4,18 @@ use crate::expected::Wanted;
 use crate::language::Input;
 use crate::spelled::Spoken;
 use crate::verdict::{Rejection, Verdict};
+use std::alloc::Global;
 use std::io::{self, Write};
 use yexplain::text::Name;
+use yfiles::diagnostic::Diagnostic;
 use ysymbols::{Grammar, Sym};
 use ytables::Tables;
 
 /// The most tokens that are named of those before an error, and of those that were expected.
 const MOST_NAMED: usize = 20;
+
+/// What is said where no verdict came within the steps that are made.
+const UNDECIDED: &str = "undecided after 1,000,000 steps";
 
 impl Verdict {
     /// The exit status where nothing else is said.
@@ -21,25 +26,50 @@ impl Verdict {
         }
     }
 
-    /// Writes it for people, and gives the exit status. Of a rejection it says this message, where
-    /// there is one, and else which token can't come and which can.
-    pub fn put<W: Write>(
+    /// What is wrong with an input, where it isn't accepted. Of a rejection it says this message,
+    /// where there is one, and else which token can't come and which can.
+    pub fn diagnostic(
         &self,
-        out: &mut W,
+        alloc: Global,
         spoken: Spoken<'_>,
         path: &str,
         input: &Input,
         message: Option<&[u8]>,
-    ) -> io::Result<u8> {
-        let written = match self {
-            Verdict::Rejected(rejection) => rejection.put(out, spoken, path, input, message),
-            _ => {
-                write!(out, "{path}: ")?;
-                self.put_words(out, spoken.grammar)
+    ) -> io::Result<Option<Diagnostic>> {
+        match self {
+            Verdict::Accepted(_) => Ok(None),
+            Verdict::Rejected(rejection) => rejection
+                .diagnostic(alloc, spoken, path, input, message)
+                .map(Some),
+            Verdict::Undecided => {
+                let mut one = Diagnostic::new(alloc, Some(path), None)?;
+                one.say(UNDECIDED)?;
+                Ok(Some(one))
             }
-        };
-        written?;
-        Ok(self.status())
+        }
+    }
+
+    /// Writes it for people, and gives the exit status, with the message of a rejection, where
+    /// there is one.
+    pub fn put<W: Write>(
+        &self,
+        alloc: Global,
+        out: &mut W,
+        spoken: Spoken<'_>,
+        (path, input): (&str, &Input),
+        message: Option<&[u8]>,
+    ) -> io::Result<u8> {
+        match self.diagnostic(alloc, spoken, path, input, message)? {
+            Some(one) => {
+                one.put(out, "ydebug")?;
+                Ok(1)
+            }
+            None => {
+                write!(out, "{path}: ")?;
+                self.put_words(out, spoken.grammar)?;
+                Ok(0)
+            }
+        }
     }
 
     /// Writes it in one line for people, without a path, and tokens by their names.
@@ -47,9 +77,10 @@ impl Verdict {
         match self {
             Verdict::Accepted(steps) => writeln!(out, "accepted after {steps} steps"),
             Verdict::Rejected(rejection) => {
-                rejection.put_words(out, Spoken::by_names(grammar), None)
+                rejection.put_words(out, Spoken::by_names(grammar), None)?;
+                writeln!(out)
             }
-            Verdict::Undecided => writeln!(out, "undecided after 1,000,000 steps"),
+            Verdict::Undecided => writeln!(out, "{UNDECIDED}"),
         }
     }
 
@@ -105,23 +136,29 @@ fn put_wanted<W: Write>(out: &mut W, spoken: Spoken<'_>, wanted: &Wanted) -> io:
         write!(out, "; can't tell of")?;
         put_list(out, spoken, unknown)?;
     }
-    writeln!(out)
+    Ok(())
 }
 
-/// Writes which tokens stand before an error, by their names, as tokens files have them: the last
+/// Adds which tokens stand before an error, by their names, as tokens files have them: the last
 /// ones, after dots where there are more.
-fn put_before<W: Write>(out: &mut W, grammar: &Grammar, before: &[Sym]) -> io::Result<()> {
+fn note_before(
+    alloc: Global,
+    one: &mut Diagnostic,
+    grammar: &Grammar,
+    before: &[Sym],
+) -> io::Result<()> {
     if before.is_empty() {
-        return writeln!(out, "  at the start");
+        return Ok(one.note(alloc, "at the start")?);
     }
     let start = before.len().saturating_sub(MOST_NAMED);
     let dots = if start > 0 { " .." } else { "" };
-    write!(out, "  after{dots}")?;
+    let mut note = Vec::new(alloc);
+    write!(note, "after{dots}")?;
     for token in before.get(start..).unwrap_or(before) {
         let name = Name(grammar, *token);
-        write!(out, " {name}")?;
+        write!(note, " {name}")?;
     }
-    writeln!(out)
+    Ok(one.help(note)?)
 }
 
 impl Rejection {
@@ -133,8 +170,7 @@ impl Rejection {
         message: Option<&[u8]>,
     ) -> io::Result<()> {
         if let Some(message) = message {
-            out.write_all(message)?;
-            return out.write_all(b"\n");
+            return out.write_all(message);
         }
         write!(out, "unexpected ")?;
         spoken.put(out, self.token)?;
@@ -153,27 +189,28 @@ impl Rejection {
         self.put_token(out, spoken, message)
     }
 
-    /// Writes so at its place in a text, with the line there, or of a tokens file with the tokens
-    /// before it.
-    fn put<W: Write>(
+    /// What is said of it: at its place in a text, with the line there, or of a tokens file with
+    /// the tokens before it.
+    fn diagnostic(
         &self,
-        out: &mut W,
+        alloc: Global,
         spoken: Spoken<'_>,
         path: &str,
         input: &Input,
         message: Option<&[u8]>,
-    ) -> io::Result<()> {
+    ) -> io::Result<Diagnostic> {
         if let Some(text) = &input.text {
             let place = text.place(self.number);
-            place.put_front(out)?;
-            self.put_token(out, spoken, message)?;
-            return place.put_text(out, true);
+            let mut one = Diagnostic::at(alloc, place, true)?;
+            self.put_token(&mut one.message, spoken, message)?;
+            return Ok(one);
         }
+        let mut one = Diagnostic::new(alloc, Some(path), None)?;
+        self.put_words(&mut one.message, spoken, message)?;
         let tokens = &input.tokens.symbols;
-        write!(out, "{path}: ")?;
-        self.put_words(out, spoken, message)?;
         let before = tokens.get(..self.before()).unwrap_or(tokens);
-        put_before(out, spoken.grammar, before)
+        note_before(alloc, &mut one, spoken.grammar, before)?;
+        Ok(one)
     }
 }
 

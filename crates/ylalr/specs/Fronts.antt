@@ -2,7 +2,7 @@
 -- to left sides.
 use Rattle.std.specs.Prelude.{ℕ, Bool, List, ◌≡◌, ◌<◌, ◌⊎◌, ◌↔◌, length, All, take, slice_index}
 use Rattle.ysymbols.specs.Grammar.{ContextFree, left_of, body_of}
-use Rattle.yspread.specs.Links.{AreLinks, Link}
+use Rattle.yrows.specs.Links.{AreLinks, Link}
 use Rattle.yrows.specs.Marks.{Has}
 use Rattle.yrows.specs.Rows.{BitRows, Holds}
 

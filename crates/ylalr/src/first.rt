@@ -11,7 +11,7 @@ use crate::tokens::token_count;
 use std::alloc::{AllocError, Global};
 use yrows::marks::Marks;
 use yrows::rows::Rows;
-use yspread::spread::spread;
+use yrows::spread::spread;
 use ysymbols::Grammar;
 
 /// The symbols that derive the empty form. It fails only when memory runs out.

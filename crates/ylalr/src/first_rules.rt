@@ -10,7 +10,7 @@ use crate::fronts::front_links;
 use std::alloc::{AllocError, Global};
 use yrows::marks::Marks;
 use yrows::rows::Rows;
-use yspread::spread::spread;
+use yrows::spread::spread;
 use ysymbols::Grammar;
 
 /// Rows in which each left side has its own rules.

@@ -23,10 +23,10 @@ use crate::states::States;
 use crate::tokens::{END, token_count};
 use std::alloc::{AllocError, Global};
 use std::marker::Model;
+use yrows::links::Links;
 use yrows::marks::Marks;
 use yrows::rows::Rows;
-use yspread::links::Links;
-use yspread::spread::spread;
+use yrows::spread::spread;
 use ysymbols::{Grammar, Sym, let_go};
 
 /// The LR(0) automaton of a grammar, and beside it what its lookaheads are made from.

@@ -70,18 +70,6 @@ struct Cutting<'a> {
     matchers: Vec<Matcher<'a>>,
 }
 
-/// What is wrong with an expression that begins after so many bytes.
-fn wrong_at(error: Error, at: usize) -> SpecFault {
-    match error {
-        Error::Syntax(error) => {
-            let at = at.saturating_add(error.span.start);
-            SpecFault::At(at, Wrong::Expression(error.kind.message()))
-        }
-        Error::OutOfMemory => SpecFault::Memory,
-        _ => SpecFault::At(at, Wrong::Expression("the expression is too large")),
-    }
-}
-
 /// The expression of a line, with this after it, which matches at the front alone.
 fn anchored(alloc: Global, rule: Rule<'_>, after: &str) -> Result<Regex, SpecFault> {
     let expression = rule.expression;
@@ -96,70 +84,33 @@ fn anchored(alloc: Global, rule: Rule<'_>, after: &str) -> Result<Regex, SpecFau
     }
 }
 
-/// The expression of a line in a group. A comment at its end, which `(?x)` allows, would go over
-/// the end of the group, and a newline ends it.
-fn in_group(alloc: Global, rule: Rule<'_>) -> Result<Regex, SpecFault> {
-    match anchored(alloc, rule, "") {
-        Err(SpecFault::At(_, _)) => anchored(alloc, rule, "\n"),
-        found => found,
-    }
-}
-
-/// Whether an expression matches the empty text.
-fn is_empty(alloc: Global, regex: &Regex) -> Made<bool> {
-    let mut matcher = regex.matcher(alloc)?;
-    Ok(matcher.is_match(b""))
-}
-
 /// The expression of a line, compiled.
 fn compiled(alloc: Global, rule: Rule<'_>) -> Result<Regex, SpecFault> {
-    if let Err(error) = Regex::new(alloc, rule.expression) {
-        return Err(wrong_at(error, rule.at));
+    match Regex::new(alloc, rule.expression) {
+        Ok(_) => {}
+        Err(Error::Syntax(error)) => {
+            let at = rule.at.saturating_add(error.span.start);
+            return Err(SpecFault::At(at, Wrong::Expression(error.kind.message())));
+        }
+        Err(Error::OutOfMemory) => return Err(SpecFault::Memory),
+        Err(_) => {
+            let why = Wrong::Expression("the expression is too large");
+            return Err(SpecFault::At(rule.at, why));
+        }
     }
-    let regex = in_group(alloc, rule)?;
-    if is_empty(alloc, &regex)? {
+    // a comment at its end, which (?x) allows, would go over the end of the group; a newline ends it
+    let regex = match anchored(alloc, rule, "") {
+        Err(SpecFault::At(_, _)) => anchored(alloc, rule, "\n")?,
+        found => found?,
+    };
+    let is_empty = {
+        let mut matcher = regex.matcher(alloc)?;
+        matcher.is_match(b"")
+    };
+    if is_empty {
         return Err(SpecFault::At(rule.at, Wrong::Empty));
     }
     Ok(regex)
-}
-
-/// The expressions of a SPEC, compiled; or the first that is refused.
-fn compile(alloc: Global, rules: &[Rule<'_>]) -> Result<Vec<Regex>, SpecFault> {
-    let mut all = Vec::new(alloc);
-    for rule in rules {
-        let regex = compiled(alloc, *rule)?;
-        all.push(regex).map_err(AllocError::from)?;
-    }
-    Ok(all)
-}
-
-/// The literal of each byte, but for those that no text has.
-fn literals_of(alloc: Global, grammar: &Grammar, absent: &[bool]) -> Made<Vec<Option<Sym>>> {
-    let mut literals = Vec::new(alloc);
-    for value in 0..=255u8 {
-        let literal = grammar.find_literal(value);
-        literals.push(literal.filter(|token| absent.get(*token) != Some(&true)))?;
-    }
-    Ok(literals)
-}
-
-/// What searches for each expression.
-fn matchers_of(alloc: Global, regexes: &[Regex]) -> Made<Vec<Matcher<'_>>> {
-    let mut matchers = Vec::with_capacity(alloc, regexes.len())?;
-    for regex in regexes {
-        let matcher = regex.matcher(alloc)?;
-        matchers.push(matcher).map_err(AllocError::from)?;
-    }
-    Ok(matchers)
-}
-
-/// Whether a word of this spelling stands at the front of a rest.
-fn begins(rest: &[u8], text: &[u8], folded: bool) -> bool {
-    match rest.get(..text.len()) {
-        Some(front) if folded => front.eq_ignore_ascii_case(text),
-        Some(front) => front == text,
-        None => false,
-    }
 }
 
 impl Lexer {
@@ -172,9 +123,18 @@ impl Lexer {
             named,
             absent,
         } = spec;
-        let literals = literals_of(alloc, grammar, &absent)?;
-        let tokens = rules.iter().map(|rule| rule.token).collect(alloc)?;
-        let regexes = compile(alloc, &rules)?;
+        let mut literals = Vec::new(alloc);
+        for value in 0..=255u8 {
+            let literal = grammar.find_literal(value);
+            let literal = literal.filter(|token| absent.get(*token) != Some(&true));
+            literals.push(literal).map_err(AllocError::from)?;
+        }
+        let (mut tokens, mut regexes) = (Vec::new(alloc), Vec::new(alloc));
+        for rule in &rules {
+            let regex = compiled(alloc, *rule)?;
+            regexes.push(regex).map_err(AllocError::from)?;
+            tokens.push(rule.token).map_err(AllocError::from)?;
+        }
         Ok(Lexer {
             words,
             literals,
@@ -199,10 +159,15 @@ impl Lexer {
 
     /// A text before it is cut.
     fn cutting<'a>(&'a self, alloc: Global, grammar: &'a Grammar) -> Made<Cutting<'a>> {
+        let mut matchers = Vec::with_capacity(alloc, self.regexes.len())?;
+        for regex in &self.regexes {
+            let matcher = regex.matcher(alloc)?;
+            matchers.push(matcher).map_err(AllocError::from)?;
+        }
         Ok(Cutting {
             lexer: self,
             grammar,
-            matchers: matchers_of(alloc, &self.regexes)?,
+            matchers,
         })
     }
 
@@ -214,7 +179,13 @@ impl Lexer {
         bytes: &[u8],
     ) -> Result<Lexed, TextFault> {
         let mut cutting = self.cutting(alloc, grammar)?;
-        let mut lexed = Lexed::new(alloc);
+        let mut lexed = Lexed {
+            tokens: Tokens {
+                symbols: Vec::new(alloc),
+            },
+            places: Vec::new(alloc),
+            end: 0,
+        };
         cutting.lex(&mut lexed, bytes)?;
         Ok(lexed)
     }
@@ -247,7 +218,10 @@ impl Cutting<'_> {
         };
         for word in &lexer.words {
             let text = name_of(grammar, word.token);
-            if begins(rest, text, word.folded) {
+            let Some(front) = rest.get(..text.len()) else {
+                continue;
+            };
+            if front == text || word.folded && front.eq_ignore_ascii_case(text) {
                 found = found.or(text.len(), Some(word.token));
             }
         }
@@ -311,17 +285,7 @@ impl Cutting<'_> {
 }
 
 impl Lexed {
-    /// No token yet.
-    fn new(alloc: Global) -> Lexed {
-        Lexed {
-            tokens: Tokens {
-                symbols: Vec::new(alloc),
-            },
-            places: Vec::new(alloc),
-            end: 0,
-        }
-    }
-
+    /// Adds a token from one place to another.
     fn push(&mut self, token: Sym, at: usize, end: usize) -> Result<(), TextFault> {
         if self.places.len() >= MOST_TOKENS {
             return Err(TextFault::TooMany(at));

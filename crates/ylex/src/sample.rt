@@ -65,85 +65,51 @@ impl<'a> Making<'a> {
         }
     }
 
-    /// Takes a byte of a class.
-    fn take_byte(&mut self, class: &Class) -> Made<()> {
+    /// The member of a class that the next choice takes.
+    fn member(&mut self, class: &Class) -> u32 {
         let way = self.way();
-        let member = member_of(class, way).unwrap_or(0);
-        if let Ok(byte) = u8::try_from(member) {
-            self.text.push(byte)?;
-        }
-        Ok(())
+        member_of(class, way).unwrap_or(0)
     }
 
-    /// Takes a character of a class.
-    fn take_char(&mut self, class: &Class) -> Made<()> {
-        let way = self.way();
-        let member = member_of(class, way).unwrap_or(0);
-        if let Some(found) = char::from_u32(member) {
-            let mut text = String::new(*self.text.allocator());
-            text.push(found)?;
-            self.text.extend_from_slice(text.as_bytes())?;
-        }
-        Ok(())
-    }
-
-    /// A part comes as often as it has to, and more often by another way.
-    fn repeat(&mut self, least: u32, most: Option<u32>, part: &'a Hir) -> Made<()> {
-        let count = (least as usize).saturating_add(self.way());
-        let most = most.map_or(count, |most| most as usize);
-        for _ in 0..count.min(most).min(MOST_PARTS) {
-            self.parts.push(part)?;
-        }
-        Ok(())
-    }
-
-    /// One of several parts comes.
-    fn choose(&mut self, parts: &'a [Hir]) -> Made<()> {
-        let way = self.way().checked_rem(parts.len()).unwrap_or(0);
-        if let Some(part) = parts.get(way) {
-            self.parts.push(part)?;
-        }
-        Ok(())
-    }
-
-    /// A part comes.
-    fn put(&mut self, part: &'a Hir) -> Made<()> {
-        self.parts.push(part)?;
-        Ok(())
-    }
-
-    /// Parts come, one after the other.
-    fn put_all(&mut self, parts: &'a [Hir]) -> Made<()> {
-        for part in parts.iter().rev() {
-            self.parts.push(part)?;
-        }
-        Ok(())
-    }
-
-    /// Takes a part.
+    /// Takes a part of the tree, or puts its own parts on those that are to come: a repeated one as
+    /// often as it has to come, and more often by another way.
     fn take(&mut self, part: &'a Hir) -> Made<()> {
         match part {
             Hir::Empty | Hir::Look(_) => {}
             Hir::Literal(bytes) => self.text.extend_from_slice(bytes)?,
-            Hir::Bytes(class) => self.take_byte(class)?,
-            Hir::Chars(class) => self.take_char(class)?,
-            Hir::Repetition { min, max, sub, .. } => self.repeat(*min, *max, sub)?,
-            Hir::Capture { sub, .. } => self.put(sub)?,
-            Hir::Concat(parts) => self.put_all(parts)?,
-            Hir::Alternation(parts) => self.choose(parts)?,
-        }
-        Ok(())
-    }
-
-    /// Takes all parts, and says whether they came to an end.
-    fn run(&mut self) -> Made<bool> {
-        for _ in 0..MOST_PARTS {
-            match self.parts.pop() {
-                Some(part) => self.take(part)?,
-                None => return Ok(true),
+            Hir::Bytes(class) => {
+                if let Ok(byte) = u8::try_from(self.member(class)) {
+                    self.text.push(byte)?;
+                }
+            }
+            Hir::Chars(class) => {
+                if let Some(found) = char::from_u32(self.member(class)) {
+                    let mut text = String::new(*self.text.allocator());
+                    text.push(found)?;
+                    self.text.extend_from_slice(text.as_bytes())?;
+                }
+            }
+            Hir::Repetition { min, max, sub, .. } => {
+                let count = (*min as usize).saturating_add(self.way());
+                let most = max.map_or(count, |most| most as usize);
+                for _ in 0..count.min(most).min(MOST_PARTS) {
+                    self.parts.push(sub)?;
+                }
+            }
+            Hir::Capture { sub, .. } => self.parts.push(sub)?,
+            Hir::Concat(parts) => {
+                for part in parts.iter().rev() {
+                    self.parts.push(part)?;
+                }
+            }
+            Hir::Alternation(parts) => {
+                let way = self.way().checked_rem(parts.len()).unwrap_or(0);
+                if let Some(part) = parts.get(way) {
+                    self.parts.push(part)?;
+                }
             }
         }
-        Ok(false)
+        Ok(())
     }
 }
 
@@ -156,11 +122,14 @@ pub fn sample_of(alloc: Global, tree: &Hir, taste: Taste) -> Made<Option<Sample>
         text: Vec::new(alloc),
     };
     making.parts.push(tree)?;
-    let is_whole = making.run()?;
-    let Making { text, choices, .. } = making;
-    Ok(if is_whole {
-        Some(Sample { text, choices })
-    } else {
-        None
-    })
+    for _ in 0..MOST_PARTS {
+        match making.parts.pop() {
+            Some(part) => making.take(part)?,
+            None => {
+                let Making { text, choices, .. } = making;
+                return Ok(Some(Sample { text, choices }));
+            }
+        }
+    }
+    Ok(None)
 }

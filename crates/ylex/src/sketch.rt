@@ -44,22 +44,18 @@ enum Kind {
     Open,
 }
 
-fn kind_of(name: &[u8]) -> Kind {
+/// Whether a token is one of a kind that a text has to give.
+fn is_of(grammar: &Grammar, used: &[bool], token: Sym, kind: Kind) -> bool {
+    let name = name_of(grammar, token);
     let is_capital = |b: u8| b.is_ascii_uppercase() || b.is_ascii_digit() || b == b'_';
-    if guess(name).is_some() {
+    let own = if guess(name).is_some() {
         Kind::Guessed
     } else if name.iter().all(|b| is_capital(*b)) {
         Kind::Keyword
     } else {
         Kind::Open
-    }
-}
-
-/// Whether a token is one of a kind that a text has to give.
-fn is_of(grammar: &Grammar, used: &[bool], token: Sym, kind: Kind) -> bool {
-    used.get(token) == Some(&true)
-        && needs_line(grammar, token)
-        && kind_of(name_of(grammar, token)) == kind
+    };
+    used.get(token) == Some(&true) && needs_line(grammar, token) && own == kind
 }
 
 /// Writes the keywords.

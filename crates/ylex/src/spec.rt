@@ -190,17 +190,6 @@ impl<'a> Spec<'a> {
             }
         }
     }
-
-    /// Adds the lines of a file.
-    fn add_lines(&mut self, grammar: &Grammar, source: &'a [u8]) -> Result<(), SpecFault> {
-        let mut at: usize = 0;
-        for bytes in source.split(|b| *b == b'\n') {
-            let line = Piece { bytes, at };
-            self.add_line(grammar, line.after(0).trimmed())?;
-            at = at.saturating_add(bytes.len()).saturating_add(1);
-        }
-        Ok(())
-    }
 }
 
 /// What a SPEC says, or the first line that is wrong.
@@ -215,7 +204,12 @@ pub fn read_spec<'a>(
         named: vec![in alloc; false; grammar.symbols()]?,
         absent: vec![in alloc; false; grammar.symbols()]?,
     };
-    spec.add_lines(grammar, source)?;
+    let mut at: usize = 0;
+    for bytes in source.split(|b| *b == b'\n') {
+        let line = Piece { bytes, at };
+        spec.add_line(grammar, line.after(0).trimmed())?;
+        at = at.saturating_add(bytes.len()).saturating_add(1);
+    }
     Ok(spec)
 }
 

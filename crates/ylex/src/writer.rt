@@ -50,16 +50,7 @@ fn is_cut(
     }
 }
 
-impl<'a> Trial<'a> {
-    /// What tries texts with a lexer.
-    fn new(alloc: Global, grammar: &'a Grammar, lexer: &'a Lexer) -> Trial<'a> {
-        Trial {
-            alloc,
-            grammar,
-            lexer,
-        }
-    }
-
+impl Trial<'_> {
     /// Whether a text is cut into exactly these tokens.
     fn is_cut(self, text: &[u8], tokens: &[Sym]) -> io::Result<bool> {
         is_cut(self.alloc, self.grammar, self.lexer, text, tokens)
@@ -78,21 +69,8 @@ impl<'a> Trial<'a> {
         }
     }
 
-    /// A text of a tree in which choices take this way, one of them or all, where it is cut into
-    /// what is wanted.
-    fn by_way(self, tree: &Hir, way: usize, wanted: &[Sym]) -> io::Result<Option<Vec<u8>>> {
-        for choice in 0..MOST_CHOICES {
-            let choice = Some(choice);
-            let found = self.by_taste(tree, Taste { choice, way }, wanted)?;
-            if found.is_some() {
-                return Ok(found);
-            }
-        }
-        let choice = None;
-        self.by_taste(tree, Taste { choice, way }, wanted)
-    }
-
-    /// A text of a tree that is cut into what is wanted, where one is found.
+    /// A text of a tree that is cut into what is wanted, where one is found: with the first way at
+    /// each choice, or another way at one of the first choices, or at all.
     fn by_tree(self, tree: &Hir, wanted: &[Sym]) -> io::Result<Option<Vec<u8>>> {
         let choice = None;
         let first = self.by_taste(tree, Taste { choice, way: 0 }, wanted)?;
@@ -100,9 +78,16 @@ impl<'a> Trial<'a> {
             return Ok(first);
         }
         for way in 1..=MOST_WAYS {
-            let found = self.by_way(tree, way, wanted)?;
-            if found.is_some() {
-                return Ok(found);
+            for number in 0..=MOST_CHOICES {
+                let choice = if number < MOST_CHOICES {
+                    Some(number)
+                } else {
+                    None
+                };
+                let found = self.by_taste(tree, Taste { choice, way }, wanted)?;
+                if found.is_some() {
+                    return Ok(found);
+                }
             }
         }
         Ok(None)
@@ -129,8 +114,13 @@ impl<'a> Trial<'a> {
         }
     }
 
-    /// A text of a line that gives a token, where one is found.
-    fn by_lines(self, token: Sym) -> io::Result<Option<Vec<u8>>> {
+    /// The text of a token, where one is found: its own, or one of a line that gives it.
+    fn sample(self, token: Sym) -> io::Result<Option<Vec<u8>>> {
+        if let Some(text) = self.own_text(token)? {
+            if self.is_cut(&text, &[token])? {
+                return Ok(Some(text));
+            }
+        }
         for (given, regex) in self.lexer.tokens.iter().zip(&self.lexer.regexes) {
             if *given == Some(token) {
                 let found = self.by_regex(regex, &[token])?;
@@ -140,16 +130,6 @@ impl<'a> Trial<'a> {
             }
         }
         Ok(None)
-    }
-
-    /// The text of a token, where one is found.
-    fn sample(self, token: Sym) -> io::Result<Option<Vec<u8>>> {
-        if let Some(text) = self.own_text(token)? {
-            if self.is_cut(&text, &[token])? {
-                return Ok(Some(text));
-            }
-        }
-        self.by_lines(token)
     }
 
     /// The text of each token, where one is found.
@@ -171,25 +151,20 @@ impl<'a> Trial<'a> {
         Ok(())
     }
 
-    /// Adds a text of each expression that is passed over.
-    fn add_skipped(self, separators: &mut Vec<Vec<u8>>) -> io::Result<()> {
-        for (given, regex) in self.lexer.tokens.iter().zip(&self.lexer.regexes) {
-            if given.is_none() {
-                if let Some(text) = self.by_regex(regex, &[])? {
-                    separators.push(text).map_err(AllocError::from)?;
-                }
-            }
-        }
-        Ok(())
-    }
-
     /// What may stand between tokens.
     fn separators(self) -> io::Result<Vec<Vec<u8>>> {
         let mut separators = Vec::new(self.alloc);
         self.add_passed(&mut separators, b" ")?;
         self.add_passed(&mut separators, b"\t")?;
         if separators.is_empty() {
-            self.add_skipped(&mut separators)?;
+            for (given, regex) in self.lexer.tokens.iter().zip(&self.lexer.regexes) {
+                if given.is_some() {
+                    continue;
+                }
+                if let Some(text) = self.by_regex(regex, &[])? {
+                    separators.push(text).map_err(AllocError::from)?;
+                }
+            }
             self.add_passed(&mut separators, b"\n")?;
         }
         self.add_passed(&mut separators, b"")?;
@@ -200,7 +175,11 @@ impl<'a> Trial<'a> {
 impl Writer {
     /// What writes texts that this lexer cuts into tokens of a grammar.
     pub fn new(alloc: Global, grammar: &Grammar, lexer: Lexer) -> io::Result<Writer> {
-        let trial = Trial::new(alloc, grammar, &lexer);
+        let trial = Trial {
+            alloc,
+            grammar,
+            lexer: &lexer,
+        };
         let samples = trial.samples()?;
         let separators = trial.separators()?;
         Ok(Writer {
@@ -243,20 +222,6 @@ impl Writer {
         Ok(Some(text))
     }
 
-    /// The text of tokens with a separator, where it is cut into exactly these.
-    fn joined_by(
-        &self,
-        alloc: Global,
-        grammar: &Grammar,
-        tokens: &[Sym],
-        separator: &[u8],
-    ) -> io::Result<Option<Vec<u8>>> {
-        match self.joined(alloc, tokens, separator)? {
-            Some(text) if is_cut(alloc, grammar, &self.lexer, &text, tokens)? => Ok(Some(text)),
-            _ => Ok(None),
-        }
-    }
-
     /// A text that is cut into exactly these tokens, where one is found.
     pub fn text(
         &self,
@@ -265,9 +230,10 @@ impl Writer {
         tokens: &[Sym],
     ) -> io::Result<Option<Vec<u8>>> {
         for separator in &self.separators {
-            let found = self.joined_by(alloc, grammar, tokens, separator)?;
-            if found.is_some() {
-                return Ok(found);
+            if let Some(text) = self.joined(alloc, tokens, separator)? {
+                if is_cut(alloc, grammar, &self.lexer, &text, tokens)? {
+                    return Ok(Some(text));
+                }
             }
         }
         Ok(None)

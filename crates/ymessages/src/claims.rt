@@ -126,23 +126,6 @@ impl Claims {
         }
     }
 
-    /// Reads the lines of a part, up to the first that isn't read.
-    fn read_part(
-        &mut self,
-        alloc: Global,
-        inputs: Inputs<'_>,
-        source: &[u8],
-        (number, part): (usize, &Part),
-    ) -> io::Result<Option<Unread>> {
-        for line in &part.lines {
-            let found = self.read_line(alloc, inputs, source, (number, *line))?;
-            if found.is_some() {
-                return Ok(found);
-            }
-        }
-        Ok(None)
-    }
-
     /// The first input that claims a state, where there is one.
     pub fn owner(&self, state: usize) -> Option<usize> {
         self.owners.get(state).copied().flatten()
@@ -170,8 +153,11 @@ impl Claims {
             owners: vec![in alloc; None; inputs.tables.automaton().states()]?,
         };
         for (number, part) in parts.iter().enumerate() {
-            if let Some(unread) = claims.read_part(alloc, inputs, source, (number, part))? {
-                return Ok(Err(unread));
+            for line in &part.lines {
+                let line = (number, *line);
+                if let Some(unread) = claims.read_line(alloc, inputs, source, line)? {
+                    return Ok(Err(unread));
+                }
             }
         }
         Ok(Ok(claims))

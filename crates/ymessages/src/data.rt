@@ -18,18 +18,6 @@ fn put_counted<W: Write>(out: &mut W, bytes: &[u8]) -> io::Result<()> {
     writeln!(out)
 }
 
-/// Writes a piece of a message as a line.
-fn put_slot<W: Write>(out: &mut W, slot: Slot<'_>) -> io::Result<()> {
-    match slot {
-        Slot::Text(bytes) => {
-            write!(out, "text ")?;
-            put_counted(out, bytes)
-        }
-        Slot::Value(number) => writeln!(out, "value {number}"),
-        Slot::Expected => writeln!(out, "expected"),
-    }
-}
-
 /// Writes the message of a state, where it has one.
 fn put_state<W: Write>(
     alloc: Global,
@@ -40,18 +28,14 @@ fn put_state<W: Write>(
     if let Some(slots) = messages.slots(alloc, state)? {
         writeln!(out, "state {state}")?;
         for slot in &slots {
-            put_slot(out, *slot)?;
-        }
-    }
-    Ok(())
-}
-
-/// Writes what tokens are called, where that isn't their names.
-fn put_spelled<W: Write>(out: &mut W, tables: &Tables, spelled: &Spelled) -> io::Result<()> {
-    for symbol in 0..grammar_of(tables).symbols() {
-        if let Some(text) = spelled.of(symbol) {
-            write!(out, "spelled {symbol} ")?;
-            put_counted(out, text)?;
+            match *slot {
+                Slot::Text(bytes) => {
+                    write!(out, "text ")?;
+                    put_counted(out, bytes)?;
+                }
+                Slot::Value(number) => writeln!(out, "value {number}")?,
+                Slot::Expected => writeln!(out, "expected")?,
+            }
         }
     }
     Ok(())
@@ -68,7 +52,13 @@ pub fn data_of(
     let digest = digest_of(alloc, tables)?;
     let mut text = Vec::new(alloc);
     write!(text, "messages 1\ntable {digest}\n")?;
-    put_spelled(&mut text, tables, spelled)?;
+    for symbol in 0..grammar_of(tables).symbols() {
+        // where it isn't its name
+        if let Some(called) = spelled.of(symbol) {
+            write!(text, "spelled {symbol} ")?;
+            put_counted(&mut text, called)?;
+        }
+    }
     for state in 0..tables.automaton().states() {
         put_state(alloc, &mut text, messages, state)?;
     }

@@ -152,20 +152,6 @@ impl Cutter {
             (_, Kind::Plain) => self.keep(line, Stage::Inputs(line)),
         }
     }
-
-    /// All lines.
-    fn take_all(&mut self, source: &[u8]) -> Result<(), Cut> {
-        let mut start: usize = 0;
-        for bytes in source.split(|b| *b == b'\n') {
-            let end = start.saturating_add(bytes.len());
-            match kind_of(bytes) {
-                Kind::Blank => self.take_blank()?,
-                kind => self.take(Span { start, end }, kind)?,
-            }
-            start = end.saturating_add(1);
-        }
-        self.take_blank()
-    }
 }
 
 /// The parts of a file, or why it has none.
@@ -176,7 +162,16 @@ pub fn parts_of(alloc: Global, source: &[u8]) -> Result<Vec<Part>, Cut> {
         lines: Vec::new(alloc),
         stage: Stage::Comments,
     };
-    cutter.take_all(source)?;
+    let mut start: usize = 0;
+    for bytes in source.split(|b| *b == b'\n') {
+        let end = start.saturating_add(bytes.len());
+        match kind_of(bytes) {
+            Kind::Blank => cutter.take_blank()?,
+            kind => cutter.take(Span { start, end }, kind)?,
+        }
+        start = end.saturating_add(1);
+    }
+    cutter.take_blank()?;
     let Cutter { parts, stage, .. } = cutter;
     match stage {
         Stage::Inputs(last) | Stage::Ended(last) => Err(Cut::NoMessage(last)),

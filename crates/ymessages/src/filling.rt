@@ -26,20 +26,16 @@ struct Filling<'a> {
     rejection: &'a Rejection,
 }
 
-/// The first bytes of those of an entry, up to the end of a character of UTF-8.
-fn first_bytes(bytes: &[u8]) -> &[u8] {
+/// Writes some bytes of a text in one line, and dots where there are more.
+fn put_bytes<W: Write>(out: &mut W, bytes: &[u8]) -> io::Result<()> {
+    // the first ones, up to the end of a character of UTF-8
     let mut end = MOST_BYTES;
     for _ in 0..3 {
         if bytes.get(end).map_or(false, |b| *b & 0xc0 == 0x80) {
             end = end.saturating_sub(1);
         }
     }
-    bytes.get(..end).unwrap_or(bytes)
-}
-
-/// Writes some bytes of a text in one line, and dots where there are more.
-fn put_bytes<W: Write>(out: &mut W, bytes: &[u8]) -> io::Result<()> {
-    let shown = first_bytes(bytes);
+    let shown = bytes.get(..end).unwrap_or(bytes);
     for byte in shown {
         let shown = if *byte < b' ' { b' ' } else { *byte };
         out.write_all(&[shown])?;
@@ -87,15 +83,6 @@ impl<'a> Filling<'a> {
         }
     }
 
-    /// Writes the token that can't come.
-    fn put_token<W: Write>(self, out: &mut W) -> io::Result<()> {
-        let Rejection { number, token, .. } = self.rejection;
-        if *token == END {
-            return self.spoken.put(out, END);
-        }
-        self.put_part(out, self.rejection.before(), *number)
-    }
-
     /// Where the tokens of an entry begin, counted from the bottom; before the token that can't
     /// come, where there is no such entry.
     fn start(self, index: usize) -> usize {
@@ -116,20 +103,25 @@ impl<'a> Filling<'a> {
         }
     }
 
-    /// Writes the tokens that could come.
-    fn put_expected<W: Write>(self, out: &mut W) -> io::Result<()> {
-        let mut list = Vec::new(self.alloc);
-        put_list(&mut list, self.spoken, &self.rejection.wanted.can)?;
-        out.write_all(list.as_slice().trim_ascii_start())
-    }
-
     /// Writes a piece of a message.
     fn put<W: Write>(self, out: &mut W, slot: Slot<'_>) -> io::Result<()> {
         match slot {
             Slot::Text(bytes) => out.write_all(bytes),
-            Slot::Value(0) => self.put_token(out),
+            // the token that can't come
+            Slot::Value(0) => {
+                let Rejection { number, token, .. } = self.rejection;
+                if *token == END {
+                    return self.spoken.put(out, END);
+                }
+                self.put_part(out, self.rejection.before(), *number)
+            }
             Slot::Value(number) => self.put_entry(out, number),
-            Slot::Expected => self.put_expected(out),
+            // the tokens that could come
+            Slot::Expected => {
+                let mut list = Vec::new(self.alloc);
+                put_list(&mut list, self.spoken, &self.rejection.wanted.can)?;
+                out.write_all(list.as_slice().trim_ascii_start())
+            }
         }
     }
 }

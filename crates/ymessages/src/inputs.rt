@@ -40,20 +40,16 @@ pub enum Wrong {
     TooMany(usize),
 }
 
-/// Whether a word can begin after some bytes.
-fn ends_word(bytes: &[u8]) -> bool {
-    match bytes.last() {
-        None | Some(b' ') | Some(b'\t') | Some(b'\'') => true,
-        Some(_) => false,
-    }
-}
-
 /// The tokens of an input without the end, where that is its last word.
 fn without_end(line: &[u8]) -> (&[u8], bool) {
     let text = line.trim_ascii_end();
-    match text.strip_suffix(b"$end") {
-        Some(rest) if ends_word(rest) => (rest, true),
-        _ => (text, false),
+    let Some(rest) = text.strip_suffix(b"$end") else {
+        return (text, false);
+    };
+    // whether a word can begin after the rest
+    match rest.last() {
+        None | Some(b' ') | Some(b'\t') | Some(b'\'') => (rest, true),
+        Some(_) => (text, false),
     }
 }
 
@@ -65,11 +61,6 @@ fn text_without_end(line: &[u8]) -> (&[u8], bool) {
         Some(Some((b' ' | b'\t', before))) => (before, true),
         _ => (line, false),
     }
-}
-
-/// The error of memory that ran out.
-fn no_memory() -> io::Error {
-    io::Error::from(ErrorKind::OutOfMemory)
 }
 
 impl Listed {
@@ -98,18 +89,16 @@ impl<'a> Inputs<'a> {
         }
     }
 
-    /// An input that is tokens.
-    fn read_tokens(self, alloc: Global, line: &[u8]) -> io::Result<Result<Listed, Wrong>> {
-        let (text, ended) = without_end(line);
-        match read_tokens(alloc, self.tables, text) {
-            Ok(tokens) => Ok(Ok(Listed { tokens, ended })),
-            Err(TokenFault::Memory) => Err(no_memory()),
-            Err(fault) => Ok(Err(Wrong::Tokens(fault))),
-        }
-    }
-
-    /// An input that is a text.
-    fn cut(self, alloc: Global, lexer: &Lexer, line: &[u8]) -> io::Result<Result<Listed, Wrong>> {
+    /// The input of a line, which is tokens or a text, or why that is none.
+    pub fn read(self, alloc: Global, line: &[u8]) -> io::Result<Result<Listed, Wrong>> {
+        let Some(lexer) = self.lexer else {
+            let (text, ended) = without_end(line);
+            return match read_tokens(alloc, self.tables, text) {
+                Ok(tokens) => Ok(Ok(Listed { tokens, ended })),
+                Err(TokenFault::Memory) => Err(io::Error::from(ErrorKind::OutOfMemory)),
+                Err(fault) => Ok(Err(Wrong::Tokens(fault))),
+            };
+        };
         let (text, ended) = text_without_end(line);
         match lexer.lex(alloc, self.tables.automaton().grammar(), text) {
             Ok(lexed) => {
@@ -118,15 +107,7 @@ impl<'a> Inputs<'a> {
             }
             Err(TextFault::Unmatched(at)) => Ok(Err(Wrong::Unmatched(at))),
             Err(TextFault::TooMany(at)) => Ok(Err(Wrong::TooMany(at))),
-            Err(TextFault::Memory) => Err(no_memory()),
-        }
-    }
-
-    /// The input of a line, or why that is none.
-    pub fn read(self, alloc: Global, line: &[u8]) -> io::Result<Result<Listed, Wrong>> {
-        match self.lexer {
-            Some(lexer) => self.cut(alloc, lexer, line),
-            None => self.read_tokens(alloc, line),
+            Err(TextFault::Memory) => Err(io::Error::from(ErrorKind::OutOfMemory)),
         }
     }
 }

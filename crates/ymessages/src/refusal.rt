@@ -6,9 +6,10 @@ use crate::inputs::Wrong;
 use std::alloc::Global;
 use std::io::{self, Write};
 use yexplain::text::Name;
-use yfaults::opening::put_part_fault;
-use yfaults::shown::Place;
-use yinput::fault::{put_too_many, put_unmatched};
+use yfaults::opening::part_fault;
+use yfiles::diagnostic::{Diagnostic, Diagnostics};
+use yfiles::place::Place;
+use yinput::fault::{too_many, unmatched};
 use ysymbols::Grammar;
 
 /// A file of messages: its path and its bytes.
@@ -18,8 +19,6 @@ pub struct Source<'a> {
     pub path: &'a str,
     /// The bytes.
     pub bytes: &'a [u8],
-    /// Whether places have their columns. What is wrong with a whole line has none.
-    pub columns: bool,
 }
 
 /// What a parse over an input comes to, where its last token is no error.
@@ -42,17 +41,8 @@ pub fn put_came<W: Write>(out: &mut W, grammar: &Grammar, claim: &Claim) -> io::
 }
 
 impl Source<'_> {
-    /// The place of a line.
-    fn place(&self, line: Span) -> Place<'_> {
-        Place {
-            path: self.path,
-            source: self.bytes,
-            at: line.start,
-        }
-    }
-
     /// The place in a line after so many of its bytes.
-    fn place_in(&self, line: Span, before: usize) -> Place<'_> {
+    fn place(&self, line: Span, before: usize) -> Place<'_> {
         Place {
             path: self.path,
             source: self.bytes,
@@ -60,89 +50,80 @@ impl Source<'_> {
         }
     }
 
-    /// Writes the path and the number of a line.
-    fn put_front<W: Write>(&self, out: &mut W, line: Span) -> io::Result<()> {
-        let (path, (number, _)) = (self.path, self.place(line).spot());
-        write!(out, "{path}:{number}: ")
+    /// What is said of a line, with its text.
+    fn at_line(&self, alloc: Global, line: Span) -> io::Result<Diagnostic> {
+        Diagnostic::at(alloc, self.place(line, 0), false)
     }
 
-    /// Writes that inputs have no message, the last of them on this line.
-    pub fn put_no_message<W: Write>(&self, out: &mut W, line: Span) -> io::Result<()> {
-        self.put_front(out, line)?;
-        writeln!(out, "no message follows this input")?;
-        self.place(line).put_text(out, false)?;
-        writeln!(
-            out,
-            "  Write an empty line after it, and then the message; it can't begin with #."
-        )
+    /// That inputs have no message, the last of them on this line.
+    pub fn no_message(&self, alloc: Global, line: Span) -> io::Result<Diagnostic> {
+        let mut one = self.at_line(alloc, line)?;
+        one.say("no message follows this input")?;
+        one.note(
+            alloc,
+            "Write an empty line after it, and then the message; it can't begin with #.",
+        )?;
+        Ok(one)
     }
 
-    /// Writes why an input isn't read.
-    pub fn put_unread<W: Write>(
+    /// Why an input isn't read.
+    pub fn unread(
         &self,
-        out: &mut W,
         alloc: Global,
         grammar: &Grammar,
         unread: Unread,
-    ) -> io::Result<()> {
+    ) -> io::Result<Diagnostic> {
         let Unread { line, wrong } = unread;
         match wrong {
             Wrong::Tokens(fault) => {
-                let tokens = (self.place(line), line.of(self.bytes));
-                put_part_fault(out, alloc, grammar, tokens, fault, self.columns)
+                let tokens = (self.place(line, 0), line.of(self.bytes));
+                part_fault(alloc, grammar, tokens, fault)
             }
-            Wrong::Unmatched(before) => put_unmatched(out, self.place_in(line, before)),
-            Wrong::TooMany(before) => put_too_many(out, self.place_in(line, before)),
+            Wrong::Unmatched(before) => unmatched(alloc, self.place(line, before)),
+            Wrong::TooMany(before) => too_many(alloc, self.place(line, before)),
         }
     }
 
-    /// Writes that the last token of an input is no error.
-    fn put_wrong<W: Write>(&self, out: &mut W, grammar: &Grammar, claim: &Claim) -> io::Result<()> {
-        self.put_front(out, claim.line)?;
-        write!(out, "this input isn't an error at its last token: ")?;
-        put_came(out, grammar, claim)?;
-        writeln!(out)?;
-        self.place(claim.line).put_text(out, false)
-    }
-
-    /// Writes that an input has the state of one with another message.
-    fn put_rival<W: Write>(&self, out: &mut W, claim: &Claim, rival: &Claim) -> io::Result<()> {
-        let (line, _) = self.place(rival.line).spot();
-        self.put_front(out, claim.line)?;
-        writeln!(
-            out,
-            "its error is detected in the same state as that of line {line}, which has another \
-             message"
-        )?;
-        self.place(claim.line).put_text(out, false)
-    }
-
-    /// Writes what is wrong with an input, and says whether something is.
-    fn put_claim<W: Write>(
+    /// What is wrong with an input, where something is: its last token is no error, or it has the
+    /// state of one with another message.
+    fn of_claim(
         &self,
-        out: &mut W,
+        alloc: Global,
         grammar: &Grammar,
         claims: &Claims,
         claim: &Claim,
-    ) -> io::Result<bool> {
+    ) -> io::Result<Option<Diagnostic>> {
+        let mut one = self.at_line(alloc, claim.line)?;
         match (claim.came, claims.rival(claim)) {
-            (Came::Claims(_), None) => return Ok(false),
-            (Came::Claims(_), Some(rival)) => self.put_rival(out, claim, rival)?,
-            _ => self.put_wrong(out, grammar, claim)?,
+            (Came::Claims(_), None) => return Ok(None),
+            (Came::Claims(_), Some(rival)) => {
+                let line = self.place(rival.line, 0).spot().line;
+                write!(
+                    one.message,
+                    "its error is detected in the same state as that of line {line}, which has \
+                     another message"
+                )?;
+            }
+            _ => {
+                one.say("this input isn't an error at its last token: ")?;
+                put_came(&mut one.message, grammar, claim)?;
+            }
         }
-        Ok(true)
+        Ok(Some(one))
     }
 
-    /// Writes what is wrong with each input, and says how many are.
-    pub fn put_claims<W: Write>(
+    /// Tells what is wrong with each input, and says how many are wrong.
+    pub fn add_claims(
         &self,
-        out: &mut W,
+        alloc: Global,
+        told: &mut Diagnostics,
         grammar: &Grammar,
         claims: &Claims,
     ) -> io::Result<usize> {
         let mut count: usize = 0;
         for claim in &claims.all {
-            if self.put_claim(out, grammar, claims, claim)? {
+            if let Some(one) = self.of_claim(alloc, grammar, claims, claim)? {
+                told.add(one)?;
                 count = count.saturating_add(1);
             }
         }

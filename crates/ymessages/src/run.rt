@@ -8,22 +8,21 @@ use std::alloc::Global;
 use std::fs;
 use std::io::{self, Write};
 use std::rt::Files;
-use ycounterexample::trial::empty_session;
 use yerrors::confirm::Confirmed;
 use yerrors::errors::Errors;
 use yexplain::reads::{Made, grammar_of};
 use yexplain::text::{Name, Names};
 use yfaults::opening::Opened;
+use yfiles::diagnostic::Diagnostics;
 use yfiles::reading::Limited;
 use yfiles::same::refused_outputs;
 use yfiles::writing::{put_asked, put_file};
 use yinput::language::{Language, LanguageFiles};
-use yinput::spelled::Spelled;
 use ylalr::END;
 use ylex::writer::Writer;
 use yparse::Session;
+use ysearch::trial::empty_session;
 use ysymbols::Grammar;
-use ytables::Tables;
 use yview::page::Page;
 
 /// What is asked for: the errors of a grammar, or a file of messages for them.
@@ -52,40 +51,25 @@ struct Found {
     writer: Option<Writer>,
 }
 
-/// Which tokens no input has: where inputs are texts, those that no line of the SPEC gives.
-fn absent_in(alloc: Global, grammar: &Grammar, writer: Option<&Writer>) -> Made<Vec<bool>> {
-    let mut absent = Vec::new(alloc);
+/// Tokens that inputs can't have, where they are texts.
+#[derive(Drop)]
+struct Lacking {
+    /// Those that no line of the SPEC gives.
+    absent: Vec<bool>,
+    /// Those and the ones for which no text is found.
+    untold: Vec<bool>,
+}
+
+/// The tokens that inputs can't have.
+fn lacking_in(alloc: Global, grammar: &Grammar, writer: Option<&Writer>) -> Made<Lacking> {
+    let (mut absent, mut untold) = (Vec::new(alloc), Vec::new(alloc));
     if let Some(writer) = writer {
         for token in 0..grammar.symbols() {
             absent.push(token != END && !writer.lexer().gives(token))?;
-        }
-    }
-    Ok(absent)
-}
-
-/// Which tokens have no text, where inputs are texts: those among them, and those for which none
-/// is found.
-fn untold_in(alloc: Global, grammar: &Grammar, writer: Option<&Writer>) -> Made<Vec<bool>> {
-    let mut untold = Vec::new(alloc);
-    if let Some(writer) = writer {
-        for token in 0..grammar.symbols() {
             untold.push(token != END && !writer.tells(token))?;
         }
     }
-    Ok(untold)
-}
-
-/// The errors of states by inputs for whose tokens texts are found, where that leaves some out.
-fn told_errors(
-    alloc: Global,
-    session: &mut Session,
-    absent: &[bool],
-    untold: &[bool],
-) -> io::Result<Option<Errors>> {
-    if absent == untold {
-        return Ok(None);
-    }
-    Errors::new(alloc, session, untold).map(Some)
+    Ok(Lacking { absent, untold })
 }
 
 impl Found {
@@ -93,11 +77,14 @@ impl Found {
     fn new(alloc: Global, language: Language, messages: Messages) -> io::Result<Found> {
         let (opened, writer) = language.into_writing(alloc)?;
         let Opened { tables, lines: _ } = opened;
-        let absent = absent_in(alloc, grammar_of(&tables), writer.as_ref())?;
-        let untold = untold_in(alloc, grammar_of(&tables), writer.as_ref())?;
+        let lacking = lacking_in(alloc, grammar_of(&tables), writer.as_ref())?;
         let mut session = empty_session(alloc, tables);
-        let errors = Errors::new(alloc, &mut session, &absent)?;
-        let told = told_errors(alloc, &mut session, &absent, &untold)?;
+        let errors = Errors::new(alloc, &mut session, &lacking.absent)?;
+        let told = if lacking.absent == lacking.untold {
+            None
+        } else {
+            Some(Errors::new(alloc, &mut session, &lacking.untold)?)
+        };
         Ok(Found {
             session,
             messages,
@@ -191,35 +178,24 @@ fn put_inputs<W: Write>(out: &mut W, path: &str, messages: &Messages) -> io::Res
 
 /// The messages that are asked for: those of the file; of one that is to be written anew, also
 /// where inputs are wrong or there is no such file; none where errors are to be listed. Where they
-/// can't be read, that is written, and the exit status is the answer.
-fn read_messages<F: Files + AllocGlobal, E: Write>(
+/// can't be read, that is said, and the exit status is the answer.
+fn read_messages<F: Files + AllocGlobal>(
     rt: &F,
     asked: Asked<'_>,
     language: &Language,
-    errors: &mut E,
+    told: &mut Diagnostics,
 ) -> io::Result<Result<Messages, u8>> {
     let inputs = Inputs::of_language(language);
     let (path, bytes) = match asked.messages {
         None => (asked.files.grammar.path, Vec::new(rt.alloc())),
-        Some(file) if !asked.update => return Messages::open(rt, inputs, file, errors),
+        Some(file) if !asked.update => return Messages::open(rt, inputs, file, told),
         Some(file) if fs::metadata(rt, file.path).is_err() => (file.path, Vec::new(rt.alloc())),
-        Some(file) => match file.bytes_or_status(rt, true, errors)? {
+        Some(file) => match file.bytes_or_status(rt, true, told)? {
             Ok(bytes) => (file.path, bytes),
             Err(status) => return Ok(Err(status)),
         },
     };
-    Messages::read(rt.alloc(), inputs, (path, false), bytes, errors)
-}
-
-/// Lists the errors of a language, as a file of messages that has no message yet.
-fn list<W: Write>(
-    alloc: Global,
-    grammar: &str,
-    (language, messages): (Language, Messages),
-    out: &mut W,
-) -> io::Result<u8> {
-    let mut found = Found::new(alloc, language, messages)?;
-    found.put(alloc, grammar, out).map(|_| 0)
+    Messages::read(rt.alloc(), inputs, path, bytes, told)
 }
 
 /// Writes what an update of a file comes to: its inputs, those that are wrong, and the states that
@@ -255,7 +231,9 @@ fn rewrite<F: Files + AllocGlobal, W: Write, E: Write>(
     errors: &mut E,
 ) -> io::Result<u8> {
     let alloc = rt.alloc();
-    let wrong = messages.put_wrong(&language.opened.tables, path, errors)?;
+    let mut told = Diagnostics::new(alloc);
+    let wrong = messages.add_wrong(alloc, &language.opened.tables, path, &mut told)?;
+    told.put(errors, "ydebug")?;
     let mut found = Found::new(alloc, language, messages)?;
     let mut text = Vec::new(alloc);
     let new = found.put(alloc, grammar, &mut text)?;
@@ -265,40 +243,6 @@ fn rewrite<F: Files + AllocGlobal, W: Write, E: Write>(
     }
     put_renewed(out, path, &found.messages, wrong, new)?;
     Ok(if wrong > 0 { 1 } else { 0 })
-}
-
-/// Writes which states have no message, where each is to have one, and gives the exit status.
-fn complete<E: Write>(
-    alloc: Global,
-    file: Limited<'_>,
-    (language, messages): (Language, Messages),
-    errors: &mut E,
-) -> io::Result<u8> {
-    let found = Found::new(alloc, language, messages)?;
-    match found.put_missing(alloc, file.path, errors)? {
-        0 => Ok(0),
-        _ => Ok(1),
-    }
-}
-
-/// Writes a line with its end, and gives the exit status.
-fn put_checked<W: Write>(out: &mut W, line: &[u8], end: &str) -> io::Result<u8> {
-    out.write_all(line)?;
-    writeln!(out, "{end}")?;
-    Ok(0)
-}
-
-/// The messages as data, where that is asked for.
-fn data_asked(
-    alloc: Global,
-    asked: Asked<'_>,
-    (tables, spelled): (&Tables, &Spelled),
-    messages: &Messages,
-) -> io::Result<Vec<u8>> {
-    match asked.table {
-        Some(_) => data_of(alloc, tables, spelled, messages),
-        None => Ok(Vec::new(alloc)),
-    }
 }
 
 /// Says that nothing is wrong with a file, or which states have no message where each is to have
@@ -311,29 +255,26 @@ fn check<F: Files + AllocGlobal, W: Write, E: Write>(
     out: &mut W,
     errors: &mut E,
 ) -> io::Result<u8> {
-    let mut line = Vec::new(rt.alloc());
+    let alloc = rt.alloc();
+    let mut line = Vec::new(alloc);
     put_inputs(&mut line, file.path, &messages)?;
-    let told = (&language.opened.tables, &language.spelled);
-    let data = data_asked(rt.alloc(), asked, told, &messages)?;
+    let (tables, spelled) = (&language.opened.tables, &language.spelled);
+    let data = match asked.table {
+        Some(_) => data_of(alloc, tables, spelled, &messages)?,
+        None => Vec::new(alloc),
+    };
     if asked.complete {
-        let status = complete(rt.alloc(), file, (language, messages), errors)?;
-        if status > 0 {
-            return Ok(status);
+        let found = Found::new(alloc, language, messages)?;
+        if found.put_missing(alloc, file.path, errors)? > 0 {
+            return Ok(1);
         }
     }
-    match put_asked(rt, asked.table, &data, errors)? {
-        0 if asked.complete => put_checked(out, &line, ", complete"),
-        0 => put_checked(out, &line, ""),
-        status => Ok(status),
+    let status = put_asked(rt, asked.table, &data, errors)?;
+    if status == 0 {
+        out.write_all(&line)?;
+        writeln!(out, "{}", if asked.complete { ", complete" } else { "" })?;
     }
-}
-
-/// The file that is written, where one is.
-fn output_of(asked: Asked<'_>) -> Option<&str> {
-    match asked.messages {
-        Some(file) if asked.update => Some(file.path),
-        _ => asked.table,
-    }
+    Ok(status)
 }
 
 /// The exit status where what is written would be a file that is read.
@@ -342,13 +283,14 @@ fn refused<F: Files + AllocGlobal, E: Write>(
     asked: Asked<'_>,
     errors: &mut E,
 ) -> io::Result<Option<u8>> {
-    let (output, grammar) = (output_of(asked), asked.files.grammar.path);
+    let grammar = asked.files.grammar.path;
     let spec = asked.files.spec.unwrap_or(grammar);
     match asked.messages {
-        Some(file) if !asked.update => {
-            refused_outputs(rt, &[output], &[grammar, spec, file.path], errors)
+        Some(file) if asked.update => {
+            refused_outputs(rt, &[Some(file.path)], &[grammar, spec], errors)
         }
-        _ => refused_outputs(rt, &[output], &[grammar, spec], errors),
+        Some(file) => refused_outputs(rt, &[asked.table], &[grammar, spec, file.path], errors),
+        None => refused_outputs(rt, &[asked.table], &[grammar, spec], errors),
     }
 }
 
@@ -360,14 +302,21 @@ fn run_open<F: Files + AllocGlobal, W: Write, E: Write>(
     out: &mut W,
     errors: &mut E,
 ) -> io::Result<u8> {
-    let messages = match read_messages(rt, asked, &language, errors)? {
+    let mut told = Diagnostics::new(rt.alloc());
+    let messages = read_messages(rt, asked, &language, &mut told)?;
+    told.put(errors, "ydebug")?;
+    let messages = match messages {
         Ok(messages) => messages,
         Err(status) => return Ok(status),
     };
     let grammar = asked.files.grammar.path;
     let read = (language, messages);
     match asked.messages {
-        None => list(rt.alloc(), grammar, read, out),
+        // a file of messages that has no message yet
+        None => {
+            let mut found = Found::new(rt.alloc(), read.0, read.1)?;
+            found.put(rt.alloc(), grammar, out).map(|_| 0)
+        }
         Some(file) if asked.update => rewrite(rt, (grammar, file.path), read, out, errors),
         Some(file) => check(rt, asked, file, read, out, errors),
     }

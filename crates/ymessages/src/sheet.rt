@@ -154,22 +154,17 @@ fn put_states<W: Write>(page: &mut Page<W>, errors: &Errors, reason: Reason) {
                 put_reason(page, reason);
             }
             is_begun = true;
-            put_number(page, state);
+            if page.column().saturating_add(5) >= WIDTH {
+                page.end();
+                page.put("##         ");
+            }
+            page.put(" ");
+            page.number(state);
         }
     }
     if is_begun {
         page.end();
     }
-}
-
-/// Writes the number of a state as a word of a list.
-fn put_number<W: Write>(page: &mut Page<W>, state: usize) {
-    if page.column().saturating_add(5) >= WIDTH {
-        page.end();
-        page.put("##         ");
-    }
-    page.put(" ");
-    page.number(state);
 }
 
 /// Writes the states that have no input.

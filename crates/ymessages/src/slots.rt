@@ -14,20 +14,6 @@ pub enum Slot<'a> {
     Expected,
 }
 
-/// How many digits are at the front, two at most.
-fn digits_in(piece: &[u8]) -> usize {
-    let digits = piece.iter().take(2);
-    digits.take_while(|b| b.is_ascii_digit()).count()
-}
-
-/// The number of some digits.
-fn number_in(digits: &[u8]) -> usize {
-    digits.iter().fold(0, |number: usize, digit| {
-        let digit = digit.saturating_sub(b'0') as usize;
-        number.saturating_mul(10).saturating_add(digit)
-    })
-}
-
 /// Adds bytes, where there are some.
 fn push_text<'a>(slots: &mut Vec<Slot<'a>>, text: &'a [u8]) -> Made<()> {
     if !text.is_empty() {
@@ -42,14 +28,22 @@ fn push_piece<'a>(slots: &mut Vec<Slot<'a>>, piece: &'a [u8]) -> Made<()> {
         slots.push(Slot::Expected)?;
         return push_text(slots, rest);
     }
-    let count = digits_in(piece);
-    let digits = piece.get(..count).unwrap_or(&[]);
-    let rest = piece.get(count..).unwrap_or(&[]);
-    if digits.is_empty() {
+    // two digits at most
+    let (mut count, mut number): (usize, usize) = (0, 0);
+    for byte in piece {
+        if count == 2 || !byte.is_ascii_digit() {
+            break;
+        }
+        let digit = byte.saturating_sub(b'0') as usize;
+        number = number.saturating_mul(10).saturating_add(digit);
+        count = count.saturating_add(1);
+    }
+    if count == 0 {
         slots.push(Slot::Text(b"$"))?;
     } else {
-        slots.push(Slot::Value(number_in(digits)))?;
+        slots.push(Slot::Value(number))?;
     }
+    let rest = piece.get(count..).unwrap_or(&[]);
     push_text(slots, rest)
 }
 

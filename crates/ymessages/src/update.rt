@@ -10,7 +10,7 @@ use crate::sheet::{put_head, put_no_text, put_state, put_tail, put_tokens};
 use crate::written::line_of;
 use std::alloc::{AllocError, Global};
 use std::io::{self, Write};
-use yerrors::confirm::{Confirmed, Left, confirm};
+use yerrors::confirm::{Confirmed, confirm, reductions};
 use yerrors::errors::Errors;
 use yexplain::reads::grammar_of;
 use ylex::writer::Writer;
@@ -51,23 +51,6 @@ pub struct New {
     pub untold: usize,
 }
 
-/// What a session has of an input; nothing where its last token is no error.
-fn confirmed_of(
-    alloc: Global,
-    session: &mut Session,
-    claim: &Claim,
-    left: &mut Left,
-) -> io::Result<Option<Confirmed>> {
-    match claim.state() {
-        Some(state) => {
-            let (tokens, last) = claim.input.list();
-            let list = (Vec::from_slice(alloc, tokens)?, last);
-            confirm(alloc, session, list, state, left)
-        }
-        None => Ok(None),
-    }
-}
-
 /// What a session at its start, which is left there, has of the inputs of a file.
 pub fn confirm_all(
     alloc: Global,
@@ -75,9 +58,15 @@ pub fn confirm_all(
     messages: &Messages,
 ) -> io::Result<Vec<Option<Confirmed>>> {
     let mut all = Vec::new(alloc);
-    let mut left = Left::all();
+    let mut left = reductions();
     for claim in &messages.claims.all {
-        let confirmed = confirmed_of(alloc, session, claim, &mut left)?;
+        // nothing where its last token is no error
+        let mut confirmed = None;
+        if let Some(state) = claim.state() {
+            let (tokens, last) = claim.input.list();
+            let list = (Vec::from_slice(alloc, tokens)?, last);
+            confirmed = confirm(alloc, session, list, state, &mut left)?;
+        }
         all.push(confirmed).map_err(AllocError::from)?;
     }
     Ok(all)
@@ -89,12 +78,6 @@ fn list_in(errors: &Errors, state: usize) -> Option<&Confirmed> {
 }
 
 impl<'a> Update<'a> {
-    /// Writes bytes of the file as a line.
-    fn put_line<W: Write>(self, page: &mut Page<W>, line: Span) {
-        let _ = page.write_all(line.of(&self.messages.bytes));
-        page.end();
-    }
-
     /// Writes the comments of the input of a number.
     fn put_claim<W: Write>(self, page: &mut Page<W>, number: usize, claim: &Claim) {
         if self.writer.is_some() {
@@ -117,8 +100,9 @@ impl<'a> Update<'a> {
     }
 
     /// Writes a line of a part, and the comments of an input after it.
-    fn put_part_line<W: Write>(self, page: &mut Page<W>, line: Span) {
-        self.put_line(page, line);
+    fn put_line<W: Write>(self, page: &mut Page<W>, line: Span) {
+        let _ = page.write_all(line.of(&self.messages.bytes));
+        page.end();
         if is_comment(line.of(&self.messages.bytes)) {
             return;
         }
@@ -144,19 +128,12 @@ impl<'a> Update<'a> {
     /// Writes a part of the file.
     fn put_part<W: Write>(self, page: &mut Page<W>, part: &Part) {
         for line in &part.lines {
-            self.put_part_line(page, *line);
+            self.put_line(page, *line);
         }
         if let Some(span) = part.message {
             self.put_message(page, span.of(&self.messages.bytes));
         }
         page.end();
-    }
-
-    /// Writes the parts of the file.
-    fn put_parts<W: Write>(self, page: &mut Page<W>) {
-        for part in &self.messages.parts {
-            self.put_part(page, part);
-        }
     }
 
     /// The list of a state that is new: no input of the file claims it.
@@ -198,14 +175,6 @@ impl<'a> Update<'a> {
         page.end();
     }
 
-    /// Writes comments alone for a state for whose list no text is found.
-    fn put_untold<W: Write>(self, page: &mut Page<W>, state: usize, confirmed: &Confirmed) {
-        let list = (confirmed.tokens.as_slice(), confirmed.last);
-        put_no_text(page, grammar_of(self.tables), list);
-        put_state(page, self.tables, state, confirmed);
-        page.end();
-    }
-
     /// Writes what there is of a state that is new, and says whether that is a block.
     fn put_state<W: Write>(
         self,
@@ -216,7 +185,13 @@ impl<'a> Update<'a> {
         let line = self.line(confirmed)?;
         match &line {
             Some(line) => self.put_block(page, line, state, confirmed),
-            None => self.put_untold(page, state, confirmed),
+            None => {
+                // comments alone
+                let list = (confirmed.tokens.as_slice(), confirmed.last);
+                put_no_text(page, grammar_of(self.tables), list);
+                put_state(page, self.tables, state, confirmed);
+                page.end();
+            }
         }
         Ok(line.is_some())
     }
@@ -240,7 +215,9 @@ impl<'a> Update<'a> {
     pub fn put<W: Write>(self, page: &mut Page<W>) -> io::Result<New> {
         let texts = self.writer.is_some();
         put_head(page, self.path, self.tables, self.errors, texts);
-        self.put_parts(page);
+        for part in &self.messages.parts {
+            self.put_part(page, part);
+        }
         let new = self.put_new(page)?;
         put_tail(page, self.errors);
         Ok(new)

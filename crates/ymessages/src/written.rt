@@ -20,15 +20,6 @@ fn names_of(alloc: Global, grammar: &Grammar, tokens: &[Sym], last: Sym) -> Made
     Ok(line)
 }
 
-/// Tokens with the last one, unless that is the end.
-fn whole(alloc: Global, tokens: &[Sym], last: Sym) -> Made<Vec<Sym>> {
-    let mut all = Vec::from_slice(alloc, tokens)?;
-    if last != END {
-        all.push(last)?;
-    }
-    Ok(all)
-}
-
 /// A text of tokens and a last one with this separator between them, as a line; before it where it
 /// would be a comment. Whether the line is read so is still to be tried.
 fn joined(
@@ -37,7 +28,10 @@ fn joined(
     (tokens, last): (&[Sym], Sym),
     separator: &[u8],
 ) -> Made<Option<Vec<u8>>> {
-    let all = whole(alloc, tokens, last)?;
+    let mut all = Vec::from_slice(alloc, tokens)?;
+    if last != END {
+        all.push(last)?;
+    }
     let Some(text) = writer.joined(alloc, &all, separator)? else {
         return Ok(None);
     };
@@ -73,23 +67,6 @@ fn is_input(
     }
 }
 
-/// A line that is a text of tokens and a last one, where one is found.
-fn text_of(
-    alloc: Global,
-    inputs: Inputs<'_>,
-    writer: &Writer,
-    list: (&[Sym], Sym),
-) -> io::Result<Option<Vec<u8>>> {
-    for separator in writer.separators() {
-        if let Some(line) = joined(alloc, writer, list, separator)? {
-            if is_input(alloc, inputs, &line, list)? {
-                return Ok(Some(line));
-            }
-        }
-    }
-    Ok(None)
-}
-
 /// The line of an input with these tokens and a last one: their names, or with a writer a text,
 /// where one is found.
 pub fn line_of(
@@ -98,8 +75,16 @@ pub fn line_of(
     writer: Option<&Writer>,
     (tokens, last): (&[Sym], Sym),
 ) -> io::Result<Option<Vec<u8>>> {
-    match writer {
-        Some(writer) => text_of(alloc, inputs, writer, (tokens, last)),
-        None => Ok(Some(names_of(alloc, grammar_of(inputs.tables), tokens, last)?)),
+    let list = (tokens, last);
+    let Some(writer) = writer else {
+        return Ok(Some(names_of(alloc, grammar_of(inputs.tables), tokens, last)?));
+    };
+    for separator in writer.separators() {
+        if let Some(line) = joined(alloc, writer, list, separator)? {
+            if is_input(alloc, inputs, &line, list)? {
+                return Ok(Some(line));
+            }
+        }
     }
+    Ok(None)
 }

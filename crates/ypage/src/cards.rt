@@ -6,11 +6,11 @@ use std::alloc::{AllocError, Global};
 use std::io;
 use ycounterexample::finding::{Finding, List, Seeker};
 use ycounterexample::groups::{Conflicts, Group, Kind};
-use ycounterexample::trial::empty_session;
 use yexplain::lines::Lines;
 use yfaults::opening::Opened;
 use ylists::list_text::{ListText, put_unfound};
 use yparse::Session;
+use ysearch::trial::empty_session;
 use ysymbols::{Sym, let_go};
 use ytables::Tables;
 use yview::page::Page;
@@ -94,18 +94,13 @@ impl Maker<'_> {
         Ok(ways)
     }
 
-    /// What is said where lists are missing.
-    fn missing(self, finding: &Finding) -> io::Result<String> {
-        let mut page = Page::new(Vec::new(self.alloc), false);
-        put_unfound(&mut page, finding);
-        written(self.alloc, page)
-    }
-
     fn card(self, finding: &Finding) -> io::Result<Card> {
         let rules = Vec::from_slice(self.alloc, self.kind.rules())?;
         let taken = usize::from(!self.kind.shift);
         let all = self.kind.rivals.saturating_add(taken);
         let cell = self.kind.cell(self.group, self.tables, self.lines);
+        let mut page = Page::new(Vec::new(self.alloc), false);
+        put_unfound(&mut page, finding);
         Ok(Card {
             state: cell.state,
             token: cell.token,
@@ -115,7 +110,7 @@ impl Maker<'_> {
             rules,
             why: why_of(self.alloc, cell)?,
             ways: self.ways(finding)?,
-            missing: self.missing(finding)?,
+            missing: written(self.alloc, page)?,
         })
     }
 }
@@ -147,18 +142,12 @@ fn cards_of(
     Ok(cards)
 }
 
-/// The cards of a grammar, over a session without tokens.
-fn cards_over(alloc: Global, session: &mut Session, lines: &Lines) -> io::Result<Cards> {
-    let found = Conflicts::new(alloc, session.tables())?;
-    cards_of(alloc, session, lines, &found)
-}
-
 /// The cards of a grammar, and the grammar again. It fails only when memory runs out.
 pub fn cards_by(alloc: Global, opened: Opened) -> io::Result<(Opened, Cards)> {
     let Opened { tables, lines } = opened;
     let mut session = empty_session(alloc, tables);
-    let cards = cards_over(alloc, &mut session, &lines);
+    let found = Conflicts::new(alloc, session.tables())?;
+    let cards = cards_of(alloc, &mut session, &lines, &found)?;
     let tables = session.into_tables();
-    let cards = cards?;
     Ok((Opened { tables, lines }, cards))
 }

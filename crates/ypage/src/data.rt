@@ -5,11 +5,10 @@ use crate::cells::{Cell, cells_of};
 use crate::input::Input;
 use crate::record::Record;
 use crate::table::Table;
-use indexmap::IndexSet;
 use serde::Serialize;
 use std::alloc::Global;
 use std::io::{self, ErrorKind};
-use yexplain::reads::Made;
+use yexplain::reads::{Made, set};
 use yfaults::opening::Opened;
 use ysymbols::{Sym, let_go};
 
@@ -51,71 +50,49 @@ pub struct Shown<'a> {
     pub conflicts: Option<&'a Cards>,
 }
 
-/// Adds the states of the first position.
-fn add_stack(states: &mut IndexSet<usize>, stack: &[(Sym, usize)]) -> Made<()> {
-    for (_, state) in stack {
-        states.insert(*state)?;
-    }
-    Ok(())
-}
-
-/// Adds the states that the steps come to.
-fn add_reached(states: &mut IndexSet<usize>, reached: &[usize]) -> Made<()> {
-    for state in reached {
-        states.insert(*state)?;
-    }
-    Ok(())
-}
-
-/// Adds the states of conflicts.
-fn add_kinds(states: &mut IndexSet<usize>, cards: &Cards) -> Made<()> {
-    for card in &cards.kinds {
-        states.insert(card.state)?;
+/// Adds a state, unless it is there.
+fn add(marks: &mut [bool], states: &mut Vec<usize>, state: usize) -> Made<()> {
+    if marks.get(state) == Some(&false) {
+        set(marks, state, true);
+        states.push(state)?;
     }
     Ok(())
 }
 
 impl<'a> Shown<'a> {
-    /// Adds the states that the page shows.
-    fn add_states(self, states: &mut IndexSet<usize>) -> Made<()> {
-        states.insert(0)?;
-        add_stack(states, &self.record.start.stack)?;
-        add_reached(states, &self.record.states)?;
-        match self.conflicts {
-            Some(cards) => add_kinds(states, cards),
-            None => Ok(()),
+    /// The states that the page shows: the first, those of the first position, those that the steps
+    /// come to, and those of conflicts.
+    fn states(self, alloc: Global) -> Made<Vec<usize>> {
+        let count = self.opened.tables.automaton().states();
+        let mut marks = vec![in alloc; false; count]?;
+        let mut states = Vec::new(alloc);
+        add(&mut marks, &mut states, 0)?;
+        for (_, state) in &self.record.start.stack {
+            add(&mut marks, &mut states, *state)?;
         }
-    }
-
-    /// The grammar, and the states that the page shows; those are gathered in a set.
-    fn table_by(self, alloc: Global, states: &mut IndexSet<usize>) -> Made<Table<'a>> {
-        self.add_states(states)?;
-        let Opened { tables, lines } = self.opened;
-        Table::new(alloc, tables, lines, states.as_slice())
-    }
-
-    /// The grammar, and the states that the page shows.
-    fn table(self, alloc: Global) -> Made<Table<'a>> {
-        let mut states = IndexSet::new(alloc);
-        let table = self.table_by(alloc, &mut states);
-        drop(states);
-        table
-    }
-
-    fn data(self, alloc: Global) -> io::Result<Data<'a>> {
-        Ok(Data {
-            files: self.files,
-            table: self.table(alloc)?,
-            input: self.input,
-            record: self.record,
-            cells: cells_of(alloc, &self.opened.tables, &self.opened.lines, self.asked)?,
-            conflicts: self.conflicts,
-        })
+        for state in &self.record.states {
+            add(&mut marks, &mut states, *state)?;
+        }
+        if let Some(cards) = self.conflicts {
+            for card in &cards.kinds {
+                add(&mut marks, &mut states, card.state)?;
+            }
+        }
+        Ok(states)
     }
 
     /// The data as JSON. It fails only when memory runs out.
     pub fn json(self, alloc: Global) -> io::Result<Vec<u8>> {
-        let data = self.data(alloc)?;
+        let Opened { tables, lines } = self.opened;
+        let states = self.states(alloc)?;
+        let data = Data {
+            files: self.files,
+            table: Table::new(alloc, tables, lines, &states)?,
+            input: self.input,
+            record: self.record,
+            cells: cells_of(alloc, tables, lines, self.asked)?,
+            conflicts: self.conflicts,
+        };
         match serde_json::to_vec(alloc, &data) {
             Ok(json) => Ok(json),
             Err(_) => Err(io::Error::from(ErrorKind::OutOfMemory)),

@@ -38,22 +38,6 @@ fn taken_at(session: &Session, index: usize) -> Option<Sym> {
     }
 }
 
-/// How many tokens the steps up to a position take.
-fn taken_to(session: &Session, position: usize) -> usize {
-    (0..position)
-        .filter(|index| taken_at(session, *index).is_some())
-        .count()
-}
-
-/// The tokens that the steps take, without so many of the first.
-fn push_taken(tokens: &mut Vec<Sym>, session: &Session, skipped: usize) -> Made<()> {
-    let taken = (0..session.position()).filter_map(|index| taken_at(session, index));
-    for token in taken.skip(skipped) {
-        tokens.push(token)?;
-    }
-    Ok(())
-}
-
 /// The lines and columns of some tokens, and of what follows them, where they are those of a text.
 fn places_of(
     alloc: Global,
@@ -77,10 +61,20 @@ impl Input {
     /// The tokens around the steps of a record, at the end of which the parse stands.
     pub fn new(alloc: Global, parse: &Parse, record: &Record) -> Made<Input> {
         let session = parse.session();
-        let taken = taken_to(session, record.start.position);
+        let mut taken: usize = 0;
+        for index in 0..record.start.position {
+            let is_taken = taken_at(session, index).is_some();
+            taken = taken.saturating_add(usize::from(is_taken));
+        }
         let skipped = taken.saturating_sub(BEFORE);
-        let mut symbols = Vec::new(alloc);
-        push_taken(&mut symbols, session, skipped)?;
+        let (mut symbols, mut left) = (Vec::new(alloc), skipped);
+        for index in 0..session.position() {
+            match taken_at(session, index) {
+                Some(token) if left == 0 => symbols.push(token)?,
+                Some(_) => left = left.saturating_sub(1),
+                None => {}
+            }
+        }
         for index in 0..session.view().rest_len().min(AFTER) {
             symbols.push(upcoming_token(session, index).0)?;
         }

@@ -29,36 +29,21 @@ pub struct Asked<'a> {
     pub conflicts: bool,
 }
 
-/// Adds JSON in which no `<` stands: where one stood in a text, its number does.
-fn push_json(page: &mut Vec<u8>, json: &[u8]) -> Made<()> {
-    let mut pieces = json.split(|byte| *byte == b'<');
-    page.extend_from_slice(pieces.next().unwrap_or(&[]))?;
-    for piece in pieces {
-        page.extend_from_slice(b"\\u003c")?;
+/// The whole page around its data, in which no `<` stands: where one stood in a text, its number
+/// does.
+fn page_of(alloc: Global, json: &[u8]) -> Made<Vec<u8>> {
+    let mut page = Vec::new(alloc);
+    for part in [FRONT, STYLE, SCRIPT, BODY] {
+        page.extend_from_slice(part.as_bytes())?;
+    }
+    for (number, piece) in json.split(|byte| *byte == b'<').enumerate() {
+        if number > 0 {
+            page.extend_from_slice(b"\\u003c")?;
+        }
         page.extend_from_slice(piece)?;
     }
-    Ok(())
-}
-
-/// Writes a whole page around JSON.
-fn push_page(page: &mut Vec<u8>, json: &[u8]) -> Made<()> {
-    page.extend_from_slice(FRONT.as_bytes())?;
-    page.extend_from_slice(STYLE.as_bytes())?;
-    page.extend_from_slice(SCRIPT.as_bytes())?;
-    page.extend_from_slice(BODY.as_bytes())?;
-    push_json(page, json)?;
     page.extend_from_slice(END.as_bytes())?;
-    Ok(())
-}
-
-/// The whole page.
-fn page_of(alloc: Global, shown: Shown<'_>) -> io::Result<Vec<u8>> {
-    let json = shown.json(alloc)?;
-    let mut page = Vec::new(alloc);
-    match push_page(&mut page, &json) {
-        Ok(()) => Ok(page),
-        Err(error) => Err(io::Error::from(error)),
-    }
+    Ok(page)
 }
 
 /// The cards of a grammar where they are wanted, and the grammar again.
@@ -69,38 +54,6 @@ fn cards_of(alloc: Global, opened: Opened, wanted: bool) -> io::Result<(Opened, 
     } else {
         Ok((opened, None))
     }
-}
-
-/// Writes that there are more steps than a page shows.
-fn refuse_long<E: Write>(errors: &mut E, from: usize) -> io::Result<u8> {
-    let to = from.saturating_add(MOST_STEPS);
-    writeln!(
-        errors,
-        "ydebug: there are more than {MOST_STEPS} steps, the most that one page shows; choose a \
-         part with --from and --to, such as --from {from} --to {to}"
-    )?;
-    Ok(1)
-}
-
-/// Writes that the parse ends before the part.
-fn refuse_short<E: Write>(errors: &mut E, from: usize, end: usize) -> io::Result<u8> {
-    writeln!(
-        errors,
-        "ydebug: the parse ends at position {end}, before --from {from}"
-    )?;
-    Ok(1)
-}
-
-/// Writes the page of what is shown, and gives the exit status.
-fn put_shown<F: Files + AllocGlobal, W: Write, E: Write>(
-    rt: &F,
-    file: Option<&str>,
-    shown: Shown<'_>,
-    out: &mut W,
-    errors: &mut E,
-) -> io::Result<u8> {
-    let page = page_of(rt.alloc(), shown)?;
-    put_output(rt, file, &page, out, errors)
 }
 
 /// Writes the page of the steps that a parse has made, and gives the exit status.
@@ -123,7 +76,8 @@ fn put_steps<F: Files + AllocGlobal, W: Write, E: Write>(
         asked: trail.cells.as_slice(),
         conflicts: cards.as_ref(),
     };
-    put_shown(source.rt, asked.file, shown, out, errors)
+    let page = page_of(alloc, &shown.json(alloc)?)?;
+    put_output(source.rt, asked.file, &page, out, errors)
 }
 
 /// Writes the page of a parse at its start, and gives the exit status.
@@ -137,21 +91,24 @@ fn put_parse<F: Files + AllocGlobal, W: Write, E: Write>(
     let mut parse = parse;
     match walk_part(source.rt.alloc(), &mut parse, asked.part)? {
         Walked::Done(trail) => put_steps(source, asked, parse, &trail, out, errors),
-        Walked::Long => refuse_long(errors, asked.part.from),
-        Walked::Short(end) => refuse_short(errors, asked.part.from, end),
-    }
-}
-
-/// Opens a parse and writes its page, and gives the exit status.
-fn open_parse<F: Files + AllocGlobal, W: Write, E: Write>(
-    source: &Source<'_, F>,
-    asked: Asked<'_>,
-    out: &mut W,
-    errors: &mut E,
-) -> io::Result<u8> {
-    match source.open(errors)? {
-        Ok(parse) => put_parse(source, asked, parse, out, errors),
-        Err(status) => Ok(status),
+        Walked::Long => {
+            let from = asked.part.from;
+            let to = from.saturating_add(MOST_STEPS);
+            writeln!(
+                errors,
+                "ydebug: there are more than {MOST_STEPS} steps, the most that one page shows; \
+                 choose a part with --from and --to, such as --from {from} --to {to}"
+            )?;
+            Ok(1)
+        }
+        Walked::Short(end) => {
+            let from = asked.part.from;
+            writeln!(
+                errors,
+                "ydebug: the parse ends at position {end}, before --from {from}"
+            )?;
+            Ok(1)
+        }
     }
 }
 
@@ -175,11 +132,12 @@ pub fn run_page<F: Files + AllocGlobal, W: Write, E: Write>(
         return Ok(status);
     }
     let Part { from, to } = asked.part;
-    match to {
-        Some(to) if to < from => {
-            writeln!(errors, "ydebug: --to {to} stands before --from {from}")?;
-            Ok(2)
-        }
-        _ => open_parse(source, asked, out, errors),
+    if let Some(to) = to.filter(|to| *to < from) {
+        writeln!(errors, "ydebug: --to {to} stands before --from {from}")?;
+        return Ok(2);
+    }
+    match source.open(errors)? {
+        Ok(parse) => put_parse(source, asked, parse, out, errors),
+        Err(status) => Ok(status),
     }
 }

@@ -60,22 +60,17 @@ fn letter_of(kind: StepKind) -> char {
     }
 }
 
-/// The word of a mode.
-fn mode_word(mode: Mode) -> &'static str {
-    match mode {
-        Mode::Running => "running",
-        Mode::Popping => "popping",
-        Mode::Accepted => "accepted",
-        Mode::Failed => "failed",
-    }
-}
-
 impl Start {
     /// Where a session stands.
     pub fn of(alloc: Global, session: &Session) -> Made<Start> {
         Ok(Start {
             position: session.position(),
-            mode: mode_word(session.view().mode()),
+            mode: match session.view().mode() {
+                Mode::Running => "running",
+                Mode::Popping => "popping",
+                Mode::Accepted => "accepted",
+                Mode::Failed => "failed",
+            },
             stack: (0..session.view().stack_len())
                 .map(|index| (stack_symbol(session, index), stack_state(session, index)))
                 .collect(alloc)?,

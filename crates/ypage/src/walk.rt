@@ -97,17 +97,6 @@ impl Walk<'_> {
         self.note_cell()?;
         Ok(true)
     }
-
-    /// Notes the first cell, makes so many steps at most, and says whether there are more.
-    fn go(&mut self, most: usize) -> io::Result<bool> {
-        self.note_cell()?;
-        for _ in 0..MOST_STEPS.min(most) {
-            if !self.step()? {
-                return Ok(false);
-            }
-        }
-        Ok(most > MOST_STEPS && step(self.parse)?.is_some())
-    }
 }
 
 /// Makes the steps that are wanted from where a parse stands.
@@ -121,7 +110,13 @@ fn walk_on(alloc: Global, parse: &mut Parse, most: usize) -> io::Result<Walked> 
         parse,
         trail: &mut trail,
     };
-    if walk.go(most)? {
+    walk.note_cell()?;
+    for _ in 0..MOST_STEPS.min(most) {
+        if !walk.step()? {
+            return Ok(Walked::Done(trail));
+        }
+    }
+    if most > MOST_STEPS && step(walk.parse)?.is_some() {
         Ok(Walked::Long)
     } else {
         Ok(Walked::Done(trail))

@@ -13,5 +13,5 @@ pub use Rattle.ymachine.specs.View
 pub use Rattle.ytokens.specs.Tokens
 pub use Rattle.ytokens.specs.TokensFile
 pub use Rattle.ytokens.specs.Reading
-pub use Rattle.yjudge.specs.Sentences
-pub use Rattle.yjudge.specs.Verdict
+pub use Rattle.ysession.specs.Sentences
+pub use Rattle.ysession.specs.Verdict

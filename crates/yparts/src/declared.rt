@@ -3,7 +3,7 @@
 use crate::bodies::inner;
 use crate::gather::{Defined, Gather};
 use crate::options::{Errors, Header, Purity};
-use crate::params::{is_done, param_at};
+use crate::params::param_at;
 use crate::parts::{Block, Care, Deed, Piece, Taker, Target, Whose};
 use crate::refusal::{Refusal, Trouble};
 use crate::versions::required;
@@ -13,18 +13,14 @@ use yforeign::directive::{is_symbol, is_word};
 use yforeign::lexeme::{Kind, Lexeme};
 use yforeign::survey::{inside, is_macro, is_text};
 
-/// The text of a piece between its braces.
-fn between<'a>(piece: Piece<'a>) -> Piece<'a> {
+/// The text of a piece without so many signs at both ends.
+fn between<'a>(piece: Piece<'a>, signs: usize) -> Piece<'a> {
+    let end = piece.text.len().saturating_sub(signs);
     Piece {
-        text: inner(piece.text),
-        at: piece.at.saturating_add(1),
+        text: piece.text.get(signs..end).unwrap_or(&[]),
+        at: piece.at.saturating_add(signs),
         line: piece.line,
     }
-}
-
-/// The text of a code block without its signs.
-fn within<'a>(piece: Piece<'a>) -> Piece<'a> {
-    between(between(piece))
 }
 
 impl<'a> Gather<'a, '_> {
@@ -36,20 +32,28 @@ impl<'a> Gather<'a, '_> {
 
     /// Takes in a code block.
     pub fn take_block(&mut self, lexeme: &Lexeme) -> Made<()> {
-        let piece = within(self.piece(lexeme));
+        let piece = between(self.piece(lexeme), 2);
         self.take_text(Target::Prologue, piece)
     }
 
     /// The first lexeme of a kind, as a piece.
     fn first(&self, rest: &[Lexeme], kind: Kind) -> Option<Piece<'a>> {
-        let found = rest.iter().find(|lexeme| lexeme.kind == kind);
-        found.map(|lexeme| self.piece(lexeme))
+        for lexeme in rest {
+            if lexeme.kind == kind {
+                return Some(self.piece(lexeme));
+            }
+        }
+        None
     }
 
     /// The first string, without its quotes.
     fn string(&self, rest: &[Lexeme]) -> Option<&'a [u8]> {
-        let found = rest.iter().find(|lexeme| is_text(lexeme.kind));
-        found.map(|lexeme| inside(self.source, lexeme))
+        for lexeme in rest {
+            if is_text(lexeme.kind) {
+                return Some(inside(self.source, lexeme));
+            }
+        }
+        None
     }
 
     /// Takes in `%union`.
@@ -77,32 +81,28 @@ impl<'a> Gather<'a, '_> {
             }
             None => Target::Code,
         };
-        self.take_text(target, between(piece))?;
+        self.take_text(target, between(piece, 1))?;
         Ok(())
     }
 
-    /// Takes in parameters that stand between braces.
-    fn take_params(&mut self, taker: Taker, piece: Piece<'a>) -> Result<(), Trouble> {
-        let mut rest = inner(piece.text);
-        // there is one parameter at least
-        for turn in 0..piece.text.len() {
-            if turn > 0 && is_done(rest) {
-                break;
-            }
-            let unnamed = Trouble::Refused(Refusal::Parameter, piece.at);
-            let (param, after) = param_at(taker, rest).ok_or(unnamed)?;
-            self.parts.params.push(param)?;
-            rest = after;
-        }
-        Ok(())
-    }
-
-    /// Takes in all parameters of a directive.
-    fn take_all_params(&mut self, taker: Taker, rest: &[Lexeme]) -> Result<(), Trouble> {
+    /// Takes in all parameters of a directive, of which some stand between braces each time.
+    fn take_params(&mut self, taker: Taker, rest: &[Lexeme]) -> Result<(), Trouble> {
         for lexeme in rest {
-            if lexeme.kind == Kind::Braced {
-                let piece = self.piece(lexeme);
-                self.take_params(taker, piece)?;
+            if lexeme.kind != Kind::Braced {
+                continue;
+            }
+            let piece = self.piece(lexeme);
+            let mut rest = inner(piece.text);
+            // there is one parameter at least
+            for turn in 0..piece.text.len() {
+                if turn > 0 && rest.trim_ascii().is_empty() {
+                    break;
+                }
+                let Some((param, after)) = param_at(taker, rest) else {
+                    return Err(Trouble::Refused(Refusal::Parameter, piece.at));
+                };
+                self.parts.params.push(param)?;
+                rest = after;
             }
         }
         Ok(())
@@ -111,7 +111,7 @@ impl<'a> Gather<'a, '_> {
     /// Whose values a lexeme means.
     fn whose(&self, lexeme: &Lexeme) -> Made<Option<Whose<'a>>> {
         if lexeme.kind == Kind::Tag {
-            let tag = inner(lexeme.text(self.source)).trim_ascii();
+            let tag = inner(lexeme.text(self.source));
             return Ok(Some(match tag {
                 [] => Whose::Untagged,
                 [b'*'] => Whose::Tagged,
@@ -121,7 +121,10 @@ impl<'a> Gather<'a, '_> {
         if !is_symbol(lexeme.kind) {
             return Ok(None);
         }
-        Ok(self.symbol(lexeme)?.map(|symbol| Whose::Symbol(symbol)))
+        match self.symbol(lexeme)? {
+            Some(symbol) => Ok(Some(Whose::Symbol(symbol))),
+            None => Ok(None),
+        }
     }
 
     /// Takes in code for the values of some symbols.
@@ -142,37 +145,33 @@ impl<'a> Gather<'a, '_> {
         Ok(())
     }
 
-    /// Takes in a variable with its value.
+    /// Takes in a variable with its value, which may have the same value before.
     fn take_define(&mut self, rest: &[Lexeme]) -> Result<(), Trouble> {
-        let Some((name, rest)) = rest.split_first() else {
+        let Some((named, rest)) = rest.split_first() else {
             return Ok(());
         };
-        let (value, is_code) = match rest.first() {
-            Some(value) if value.kind == Kind::Braced => {
-                (inner(value.text(self.source)).trim_ascii(), true)
+        let (mut value, mut is_code) = (self.source.get(..0).unwrap_or(&[]), false);
+        if let Some(given) = rest.first() {
+            is_code = given.kind == Kind::Braced;
+            if is_code {
+                value = inner(given.text(self.source));
+            } else if is_text(given.kind) {
+                value = inside(self.source, given);
+            } else if given.kind == Kind::Name {
+                value = given.text(self.source);
             }
-            Some(value) if is_text(value.kind) => (inside(self.source, value), false),
-            Some(value) if value.kind == Kind::Name => (value.text(self.source), false),
-            _ => (self.source.get(..0).unwrap_or(&[]), false),
-        };
-        let at = name.span.from;
-        let name = name.text(self.source);
-        self.note_defined(Defined { name, value, at })?;
+        }
+        let (name, at) = (named.text(self.source), named.span.from);
+        for before in &self.defined {
+            if before.name == name && before.value != value {
+                return Err(Trouble::Refused(Refusal::Redefined, at));
+            }
+        }
+        self.defined.push(Defined { name, value, at })?;
         match self.parts.options.define(name, value, is_code) {
             Ok(()) => Ok(()),
             Err(refusal) => Err(Trouble::Refused(refusal, at)),
         }
-    }
-
-    /// Notes a variable, which may have the same value before.
-    fn note_defined(&mut self, defined: Defined<'a>) -> Result<(), Trouble> {
-        for before in &self.defined {
-            if before.name == defined.name && before.value != defined.value {
-                return Err(Trouble::Refused(Refusal::Redefined, defined.at));
-            }
-        }
-        self.defined.push(defined)?;
-        Ok(())
     }
 
     /// Refuses a version that is later than the one.
@@ -209,7 +208,12 @@ impl<'a> Gather<'a, '_> {
             Word::NoLines => options.no_lines = true,
             Word::Report => options.verbose = true,
             Word::Yacc => options.is_yacc = true,
-            Word::Header => options.header = string.map_or(Header::Beside, |at| Header::At(at)),
+            Word::Header => {
+                options.header = match string {
+                    Some(path) => Header::At(path),
+                    None => Header::Beside,
+                };
+            }
             Word::Output => options.output = string,
             Word::FilePrefix => options.file_prefix = string,
             Word::NamePrefix => options.name_prefix = string,
@@ -226,7 +230,7 @@ impl<'a> Gather<'a, '_> {
                     self.take_text(Target::Initial, piece)?;
                 }
             }
-            Word::Params(taker) => self.take_all_params(taker, rest)?,
+            Word::Params(taker) => self.take_params(taker, rest)?,
             Word::Care(deed) => self.take_care(deed, rest)?,
             Word::Define => self.take_define(rest)?,
             Word::Language => self.only(rest, "c", Refusal::Language)?,
@@ -242,7 +246,7 @@ impl<'a> Gather<'a, '_> {
         let mut tag = None;
         for (at, lexeme) in rest.iter().enumerate() {
             if lexeme.kind == Kind::Tag {
-                tag = Some(inner(lexeme.text(self.source)).trim_ascii());
+                tag = Some(inner(lexeme.text(self.source)));
             } else if is_symbol(lexeme.kind) && !is_macro(rest, at) {
                 self.see_symbol(lexeme, tag)?;
             }

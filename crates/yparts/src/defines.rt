@@ -53,77 +53,50 @@ const VARIABLES: [(&str, Variable); 23] = [
     ("api.push_pull", Variable::Push),
 ];
 
-/// What is said of an error, by the words for it.
-const ERRORS: [(&str, Errors); 4] = [
-    ("simple", Errors::Simple),
-    ("verbose", Errors::Verbose),
-    ("detailed", Errors::Detailed),
-    ("custom", Errors::Custom),
-];
-
-/// Whether a text is this one.
-fn is(text: &[u8], wanted: &str) -> bool {
-    text == wanted.as_bytes()
-}
-
 /// Yes or no.
 fn switch(value: &[u8]) -> Result<bool, Refusal> {
-    if value.is_empty() || is(value, "true") {
-        Ok(true)
-    } else if is(value, "false") {
-        Ok(false)
-    } else {
-        Err(Refusal::Value)
+    match value {
+        b"" | b"true" => Ok(true),
+        b"false" => Ok(false),
+        _ => Err(Refusal::Value),
     }
 }
 
 /// How far a parser does without shared variables.
 fn purity(value: &[u8]) -> Result<Purity, Refusal> {
-    if is(value, "full") {
-        return Ok(Purity::Full);
-    }
-    Ok(if switch(value)? {
-        Purity::Yes
-    } else {
-        Purity::No
-    })
-}
-
-/// Whether to look ahead before an error.
-fn lac(value: &[u8]) -> Result<bool, Refusal> {
-    if is(value, "full") {
-        Ok(true)
-    } else if is(value, "none") {
-        Ok(false)
-    } else {
-        Err(Refusal::Value)
+    match value {
+        b"full" => Ok(Purity::Full),
+        b"" | b"true" => Ok(Purity::Yes),
+        b"false" => Ok(Purity::No),
+        _ => Err(Refusal::Value),
     }
 }
 
 /// What is said of an error.
 fn errors(value: &[u8]) -> Result<Errors, Refusal> {
-    let found = ERRORS.iter().find(|(word, _)| is(value, word));
-    found.map_or(Err(Refusal::Value), |(_, errors)| Ok(*errors))
+    match value {
+        b"simple" => Ok(Errors::Simple),
+        b"verbose" => Ok(Errors::Verbose),
+        b"detailed" => Ok(Errors::Detailed),
+        b"custom" => Ok(Errors::Custom),
+        _ => Err(Refusal::Value),
+    }
 }
 
 /// The type of values; one in braces is one of C.
 fn values(value: &[u8], is_code: bool) -> Result<Values<'_>, Refusal> {
-    if is_code {
-        Ok(Values::Named(value))
-    } else if is(value, "union") {
-        Ok(Values::Symbols)
-    } else if is(value, "variant") {
-        Err(Refusal::Variant)
-    } else if is(value, "union-directive") {
-        Ok(Values::Declared)
-    } else {
-        Ok(Values::Named(value))
+    match value {
+        _ if is_code => Ok(Values::Named(value)),
+        b"union" => Ok(Values::Symbols),
+        b"variant" => Err(Refusal::Variant),
+        b"union-directive" => Ok(Values::Declared),
+        _ => Ok(Values::Named(value)),
     }
 }
 
 /// Nothing, where a value is this one.
 fn only(value: &[u8], wanted: &str, refusal: Refusal) -> Result<(), Refusal> {
-    if is(value, wanted) {
+    if value == wanted.as_bytes() {
         Ok(())
     } else {
         Err(refusal)
@@ -132,8 +105,12 @@ fn only(value: &[u8], wanted: &str, refusal: Refusal) -> Result<(), Refusal> {
 
 /// The variable of a name.
 fn variable_of(name: &[u8]) -> Result<Variable, Refusal> {
-    let found = VARIABLES.iter().find(|(known, _)| is_word(name, known));
-    found.map_or(Err(Refusal::Variable), |(_, variable)| Ok(*variable))
+    for (known, variable) in &VARIABLES {
+        if is_word(name, known) {
+            return Ok(*variable);
+        }
+    }
+    Err(Refusal::Variable)
 }
 
 impl<'a> Options<'a> {
@@ -155,7 +132,12 @@ impl<'a> Options<'a> {
             Variable::Include => self.include = Some(value),
             Variable::Tables => only(value, "lalr", Refusal::Tables)?,
             Variable::Push => only(value, "pull", Refusal::Push)?,
-            Variable::Lac => self.lac = lac(value)?,
+            Variable::Lac => {
+                self.lac = value == b"full".as_slice();
+                if !self.lac {
+                    only(value, "none", Refusal::Value)?;
+                }
+            }
             Variable::Idle => {}
         }
         Ok(())

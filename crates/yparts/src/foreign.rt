@@ -34,17 +34,7 @@ impl<'a> Gather<'a, '_> {
         Ok(())
     }
 
-    /// Takes in what stands after the second mark.
-    fn take_tail(&mut self, mark: &Lexeme) {
-        let at = mark.span.to;
-        self.parts.tail = Some(Piece {
-            text: self.source.get(at..).unwrap_or(&[]),
-            at,
-            line: mark.span.line,
-        });
-    }
-
-    /// Takes in a group.
+    /// Takes in a group; after the second mark stands the rest of the file.
     fn take(&mut self, group: &Group<'_>) -> Result<(), Trouble> {
         let Some(first) = group.lexemes.first() else {
             return Ok(());
@@ -54,7 +44,12 @@ impl<'a> Gather<'a, '_> {
             Head::Code => self.take_block(first)?,
             Head::Left => self.take_rule(group.lexemes)?,
             Head::Bar => self.take_bar(group.lexemes)?,
-            Head::Mark if group.in_rules => self.take_tail(first),
+            Head::Mark if group.in_rules => {
+                let at = first.span.to;
+                let text = self.source.get(at..).unwrap_or(&[]);
+                let line = first.span.line;
+                self.parts.tail = Some(Piece { text, at, line });
+            }
             Head::Mark | Head::Stray => {}
         }
         Ok(())
@@ -63,20 +58,16 @@ impl<'a> Gather<'a, '_> {
     /// Gives the values of inner actions the tags that these give themselves.
     fn tag_actions(&mut self) {
         for number in 0..self.parts.actions.len() {
-            let rule = self.parts.actions.get(number).map(|action| action.rule);
+            let Some(action) = self.parts.actions.get(number).copied() else {
+                continue;
+            };
+            let left = left_of(self.grammar, action.rule);
             let tag = self.action_tags.get(number).copied().flatten();
-            if let (Some(rule), Some(tag)) = (rule, tag) {
-                if is_inner(self.grammar, rule) {
-                    self.tag_left(rule, tag);
+            if let (Some(left), Some(tag)) = (left, tag) {
+                if is_inner(self.grammar, action.rule) {
+                    self.parts.give_tag(left, tag);
                 }
             }
-        }
-    }
-
-    /// Gives the left side of a rule a tag.
-    fn tag_left(&mut self, rule: usize, tag: &'a [u8]) {
-        if let Some(left) = left_of(self.grammar, rule) {
-            self.parts.give_tag(left, tag);
         }
     }
 

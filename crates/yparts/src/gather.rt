@@ -8,15 +8,6 @@ use yforeign::lexeme::{Kind, Lexeme};
 use yimport::import::Imported;
 use ysymbols::{Grammar, Sym, let_go};
 
-/// The text of a lexeme as a piece.
-pub fn piece_of<'a>(source: &'a [u8], lexeme: &Lexeme) -> Piece<'a> {
-    Piece {
-        text: lexeme.text(source),
-        at: lexeme.span.from,
-        line: lexeme.span.line,
-    }
-}
-
 /// A variable that the file defines.
 #[derive(Clone, Copy)]
 pub struct Defined<'a> {
@@ -64,7 +55,11 @@ impl Drop for Gather<'_, '_> {
 impl<'a, 'b> Gather<'a, 'b> {
     /// The text of a lexeme.
     pub fn piece(&self, lexeme: &Lexeme) -> Piece<'a> {
-        piece_of(self.source, lexeme)
+        Piece {
+            text: lexeme.text(self.source),
+            at: lexeme.span.from,
+            line: lexeme.span.line,
+        }
     }
 
     /// The symbol that a lexeme names.
@@ -80,30 +75,29 @@ impl<'a, 'b> Gather<'a, 'b> {
         }
     }
 
-    /// Notes what a file says of a symbol by naming it below a tag or without one.
+    /// Notes what a file says of a symbol by naming it below a tag or without one: of the end that
+    /// it is a name of it.
     pub fn see_symbol(&mut self, lexeme: &Lexeme, tag: Option<&'a [u8]>) -> Made<()> {
         let text = lexeme.text(self.source);
-        let is_made = self.imported.spelling.is_made(self.source, lexeme);
-        let is_literal = matches!(lexeme.kind, Kind::Literal | Kind::ByteLiteral);
-        let symbol = self.symbol(lexeme)?;
-        if symbol == Some(0) {
-            self.name_end(lexeme)?;
-        }
-        if let Some(looks) = symbol.and_then(|symbol| self.parts.looks.get_mut(symbol)) {
-            looks.tag = tag.or(looks.tag);
-            looks.is_made = looks.is_made || is_made;
-            if is_literal {
-                looks.label = Some(text);
+        let Some(symbol) = self.symbol(lexeme)? else {
+            return Ok(());
+        };
+        if symbol == 0 && lexeme.kind == Kind::Name {
+            let mut is_new = true;
+            for end in &self.parts.ends {
+                is_new = is_new && *end != text;
+            }
+            if is_new {
+                self.parts.ends.push(text)?;
             }
         }
-        Ok(())
-    }
-
-    /// Notes a name of the end.
-    fn name_end(&mut self, lexeme: &Lexeme) -> Made<()> {
-        let name = lexeme.text(self.source);
-        if lexeme.kind == Kind::Name && !self.parts.ends.iter().any(|end| *end == name) {
-            self.parts.ends.push(name)?;
+        let is_made = self.imported.spelling.is_made(self.source, lexeme);
+        if let Some(looks) = self.parts.looks.get_mut(symbol) {
+            looks.tag = tag.or(looks.tag);
+            looks.is_made = looks.is_made || is_made;
+            if matches!(lexeme.kind, Kind::Literal | Kind::ByteLiteral) {
+                looks.label = Some(text);
+            }
         }
         Ok(())
     }
@@ -125,8 +119,8 @@ impl<'a, 'b> Gather<'a, 'b> {
         let source = self.source;
         let spelling = &self.imported.spelling;
         let strings = spelling.strings(self.alloc, source, self.grammar)?;
-        for (looks, string) in self.parts.looks.iter_mut().zip(&strings) {
-            if let Some(string) = string {
+        for (symbol, string) in strings.iter().enumerate() {
+            if let (Some(looks), Some(string)) = (self.parts.looks.get_mut(symbol), string) {
                 looks.label = Some(string.text(source));
             }
         }

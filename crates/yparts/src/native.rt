@@ -6,8 +6,8 @@ use std::mem;
 use yexplain::lines::{Spots, name_in, symbol_of};
 use yexplain::reads::Made;
 use ylexemes::part::Lexeme;
-use ysourcemap::{Mark, Role};
 use ysymbols::{Grammar, Sym, let_go};
+use ysyntax::{Mark, Role};
 
 /// A file whose parts are gathered.
 struct Gather<'a, 'b> {
@@ -38,27 +38,11 @@ impl<'a> Gather<'a, '_> {
         }
     }
 
-    /// Takes in code.
+    /// Takes in code for a place.
     fn take_text(&mut self, target: Target, from: usize, to: usize) -> Made<()> {
         let piece = self.piece(from, to);
         self.parts.blocks.push(Block { target, piece })?;
         Ok(())
-    }
-
-    /// Gives a symbol the tag that stands before it.
-    fn tag(&mut self, symbol: Option<Sym>) {
-        if let (Some(symbol), Some(tag)) = (symbol, self.tag) {
-            self.parts.give_tag(symbol, tag);
-        }
-    }
-
-    /// Takes in a mark between the parts of the file.
-    fn take_mark(&mut self, end: usize) {
-        self.marks = self.marks.saturating_add(1);
-        if self.marks == 2 {
-            let tail = self.piece(end, self.source.len());
-            self.parts.tail = Some(tail);
-        }
     }
 
     /// Takes in a lexeme.
@@ -73,13 +57,21 @@ impl<'a> Gather<'a, '_> {
             (Role::Word, _) => self.tag = None,
             (Role::Tag, _) => self.tag = name_in(lexeme),
             (Role::Declared | Role::Levelled | Role::Typed, _) => {
-                self.tag(symbol_of(self.grammar, lexeme));
+                if let (Some(symbol), Some(tag)) = (symbol_of(self.grammar, lexeme), self.tag) {
+                    self.parts.give_tag(symbol, tag);
+                }
             }
             (Role::Action(_), Lexeme::Braced(_)) => {
                 let piece = self.piece(at, end);
                 self.actions.push(piece)?;
             }
-            (Role::Mark, _) => self.take_mark(end),
+            (Role::Mark, _) => {
+                self.marks = self.marks.saturating_add(1);
+                if self.marks == 2 {
+                    let tail = self.piece(end, self.source.len());
+                    self.parts.tail = Some(tail);
+                }
+            }
             _ => {}
         }
         Ok(())

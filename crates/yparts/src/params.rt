@@ -18,8 +18,8 @@ pub fn is_comment(piece: &[u8]) -> bool {
 pub fn piece_length(text: &[u8]) -> usize {
     match text {
         [b'/', b'*', ..] => {
-            let after = after_comment(text).map_or(0, |rest| rest.len());
-            text.len().saturating_sub(after)
+            let after = after_comment(text).unwrap_or(&[]);
+            text.len().saturating_sub(after.len())
         }
         [b'/', b'/', ..] => line_length(text),
         [first, ..] if is_in_name(*first) => {
@@ -30,67 +30,41 @@ pub fn piece_length(text: &[u8]) -> usize {
     }
 }
 
-/// Where a walk over a declaration is.
-#[derive(Clone, Copy)]
-struct Walk<'a> {
-    /// The last name outside of square brackets.
-    name: Option<&'a [u8]>,
-    /// How many square brackets are open.
-    brackets: usize,
-    /// Whether a parenthesis was opened, and nothing came after it.
-    opened: bool,
-    /// Whether that of a pointer to a function was opened, in which its name stands.
-    pointer: bool,
-    /// Whether that name came, and the parenthesis behind it.
-    found: bool,
-}
-
-impl<'a> Walk<'a> {
-    /// Takes in a piece that is no comment and no blank.
-    fn take(&mut self, piece: &'a [u8], first: u8) {
-        match first {
-            b'[' => self.brackets = self.brackets.saturating_add(1),
-            b']' => self.brackets = self.brackets.saturating_sub(1),
-            b'*' if self.opened => {
-                self.pointer = true;
-                self.name = None;
-            }
-            b')' => self.found = self.pointer && self.name.is_some(),
-            _ if is_in_name(first) && !first.is_ascii_digit() && self.brackets == 0 => {
-                self.name = Some(piece);
-            }
-            _ => {}
-        }
-        self.opened = first == b'(';
-    }
-}
-
-/// The name that is declared, where there is one: the last one as bison has it, but that of a
-/// pointer to a function, and outside of comments.
+/// The name that is declared, where there is one: the last one as bison has it, outside of square
+/// brackets and of comments, but that of a pointer to a function, before its parenthesis.
 fn name_of(declaration: &[u8]) -> Option<&[u8]> {
-    let mut walk = Walk {
-        name: None,
-        brackets: 0,
-        opened: false,
-        pointer: false,
-        found: false,
-    };
+    let mut name: Option<&[u8]> = None;
+    // how many square brackets are open
+    let mut brackets: usize = 0;
+    // whether a parenthesis was opened and nothing came after it, or the star of such a pointer
+    let (mut opened, mut pointer) = (false, false);
     let mut rest = declaration;
     // each piece has a byte at least
     for _ in declaration {
-        let Some(first) = rest.first() else {
+        let Some(first) = rest.first().copied() else {
             break;
         };
         let (piece, after) = rest.split_at(piece_length(rest).min(rest.len()));
-        if !is_comment(piece) && !is_blank(*first) {
-            walk.take(piece, *first);
-        }
-        if walk.found {
-            break;
-        }
         rest = after;
+        if is_comment(piece) || is_blank(first) {
+            continue;
+        }
+        match first {
+            b'[' => brackets = brackets.saturating_add(1),
+            b']' => brackets = brackets.saturating_sub(1),
+            b'*' if opened => {
+                pointer = true;
+                name = None;
+            }
+            b')' if pointer && name.is_some() => return name,
+            _ if is_in_name(first) && !first.is_ascii_digit() && brackets == 0 => {
+                name = Some(piece);
+            }
+            _ => {}
+        }
+        opened = first == b'(';
     }
-    walk.name
+    name
 }
 
 /// How many bytes the first declaration of a list has.
@@ -124,9 +98,4 @@ pub fn param_at(taker: Taker, text: &[u8]) -> Option<(Param<'_>, &[u8])> {
         name,
     };
     Some((param, rest))
-}
-
-/// Whether nothing but blanks is left of a list.
-pub fn is_done(text: &[u8]) -> bool {
-    text.iter().all(|b| is_blank(*b))
 }

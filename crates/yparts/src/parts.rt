@@ -214,7 +214,12 @@ impl<'a> Parts<'a> {
 
     /// Whether the file gives any symbol a tag: then each value that is used needs one.
     pub fn has_tags(&self) -> bool {
-        self.looks.iter().any(|looks| looks.tag.is_some())
+        for looks in &self.looks {
+            if looks.tag.is_some() {
+                return true;
+            }
+        }
+        false
     }
 
     /// The names of values in a body.

@@ -21,29 +21,30 @@ fn number_of(digits: &[u8]) -> Option<usize> {
     Some(number)
 }
 
-/// The number that comes in a version after the greater ones: below 100.
-fn minor_of(digits: &[u8]) -> Option<usize> {
-    number_of(digits).filter(|number| *number < 100)
-}
-
-/// A version as a number: `3.8.2` is 30,802; what follows a third dot is left out.
-fn version_of(text: &[u8]) -> Option<usize> {
-    let mut parts = text.split(|b| *b == b'.');
-    let major = number_of(parts.next()?)?;
-    let minor = minor_of(parts.next()?)?;
-    let micro = match parts.next() {
-        Some(digits) => minor_of(digits)?,
-        None => 0,
-    };
-    let greater = major.saturating_mul(100).saturating_add(minor);
-    Some(greater.saturating_mul(100).saturating_add(micro))
-}
-
-/// Refuses what requires a later bison.
+/// Refuses what requires a later bison. A version has two numbers or three, those after the first
+/// below 100; what follows a third dot is left out.
 pub fn required(text: &[u8]) -> Result<(), Refusal> {
-    match version_of(text) {
-        None => Err(Refusal::Version),
-        Some(version) if version > OWN => Err(Refusal::Later),
-        Some(_) => Ok(()),
+    let mut version: usize = 0;
+    let mut count: usize = 0;
+    for digits in text.split(|b| *b == b'.') {
+        if count < 3 {
+            match number_of(digits) {
+                Some(number) if count == 0 || number < 100 => {
+                    version = version.saturating_mul(100).saturating_add(number);
+                }
+                _ => return Err(Refusal::Version),
+            }
+            count = count.saturating_add(1);
+        }
+    }
+    if count == 2 {
+        version = version.saturating_mul(100);
+    }
+    if count < 2 {
+        Err(Refusal::Version)
+    } else if version > OWN {
+        Err(Refusal::Later)
+    } else {
+        Ok(())
     }
 }

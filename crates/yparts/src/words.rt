@@ -6,47 +6,27 @@ use yforeign::directive::is_word;
 /// What a directive tells.
 #[derive(Clone, Copy, PartialEq, Eq)]
 pub enum Word {
-    /// Code, with its place or without.
     Code,
-    /// The action before the first token.
     Initial,
-    /// Parameters.
     Params(Taker),
-    /// Code for values.
     Care(Deed),
-    /// `%define`.
     Define,
-    /// `%pure-parser`.
     Pure,
-    /// `%locations`.
     Locations,
-    /// `%error-verbose`.
     ErrorVerbose,
-    /// `%debug`.
     Trace,
-    /// `%token-table`.
     Names,
-    /// `%no-lines`.
     NoLines,
-    /// `%verbose`.
     Report,
-    /// `%yacc`.
     Yacc,
-    /// `%header`.
     Header,
-    /// `%output`.
     Output,
-    /// `%file-prefix`.
     FilePrefix,
-    /// `%name-prefix`.
     NamePrefix,
-    /// `%language`.
     Language,
-    /// `%skeleton`.
     Skeleton,
-    /// `%require`.
     Require,
-    /// Nothing.
+    /// Nothing to a parser.
     Nothing,
 }
 
@@ -79,33 +59,10 @@ const WORDS: [(&str, Word); 25] = [
     ("require", Word::Require),
 ];
 
-/// The directives of byacc 2.0.
-const BYACC: [&str; 24] = [
-    "binary",
-    "code",
-    "debug",
-    "destructor",
-    "error-verbose",
-    "expect",
-    "expect-rr",
-    "ident",
-    "initial-action",
-    "left",
-    "lex-param",
-    "locations",
-    "nonassoc",
-    "parse-param",
-    "prec",
-    "pure-parser",
-    "right",
-    "start",
-    "term",
-    "token",
-    "token-table",
-    "type",
-    "union",
-    "yacc",
-];
+/// The directives of byacc 2.0, with a space between two.
+const BYACC: &str = "binary code debug destructor error-verbose expect expect-rr ident \
+    initial-action left lex-param locations nonassoc parse-param prec pure-parser right start \
+    term token token-table type union yacc";
 
 /// The places of `%code`.
 const QUALIFIERS: [(&str, Target); 3] = [
@@ -116,19 +73,32 @@ const QUALIFIERS: [(&str, Target); 3] = [
 
 /// What the directive of this text, with its percent sign, tells.
 pub fn word_of(text: &[u8]) -> Word {
-    let word = text.get(1..).unwrap_or(&[]);
-    let found = WORDS.iter().find(|(name, _)| is_word(word, name));
-    found.map_or(Word::Nothing, |(_, word)| *word)
+    let directive = text.get(1..).unwrap_or(&[]);
+    for (name, word) in &WORDS {
+        if is_word(directive, name) {
+            return *word;
+        }
+    }
+    Word::Nothing
 }
 
 /// Whether byacc hasn't the directive of this text.
 pub fn is_only_bison(text: &[u8]) -> bool {
-    let word = text.get(1..).unwrap_or(&[]);
-    !BYACC.iter().any(|name| is_word(word, name))
+    let directive = text.get(1..).unwrap_or(&[]);
+    for name in BYACC.split(' ') {
+        if is_word(directive, name) {
+            return false;
+        }
+    }
+    true
 }
 
 /// Where code with this word goes.
 pub fn target_of(word: &[u8]) -> Option<Target> {
-    let found = QUALIFIERS.iter().find(|(name, _)| is_word(word, name));
-    found.map(|(_, target)| *target)
+    for (name, target) in &QUALIFIERS {
+        if is_word(word, name) {
+            return Some(*target);
+        }
+    }
+    None
 }

@@ -3,7 +3,7 @@
 use crate::shelf::File;
 use std::alloc::{AllocError, Global};
 use std::str;
-use ycommands::words::number_of;
+use ydebugger::words::number_of;
 use yforms::Refused;
 
 /// The name of the program, which stands before its words.

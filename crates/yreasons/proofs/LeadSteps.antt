@@ -6,7 +6,7 @@ use Rattle.ysymbols.specs.Grammar.{left_of, body_of}
 use Rattle.ylalr.specs.declared.items.Item.{Item}
 use Rattle.ylalr.specs.Collection.{Collection, bare_of, state_of}
 use Rattle.yrows.specs.Rows.{BitRows, Holds}
-use Rattle.yspread.specs.Links.{Link, Reaches, given, passed, IsSpread}
+use Rattle.yrows.specs.Links.{Link, Reaches, given, passed, IsSpread}
 use Rattle.yreasons.specs.Reasons.{Opens}
 use Rattle.yreasons.specs.Leads.{Leads, next, opens, IsOpening, AreOpenings, IsAmong}
 use Rattle.yreasons.proofs.SearchSteps.{itemed}

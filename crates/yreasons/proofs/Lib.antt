@@ -5,3 +5,6 @@ pub mod ClimbSteps
 pub mod SearchSteps
 pub mod ReachSteps
 pub mod LeadSteps
+pub mod ShiftSteps
+pub mod CandidateSteps
+pub mod SettledSteps

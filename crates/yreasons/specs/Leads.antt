@@ -6,7 +6,7 @@ use Rattle.ysymbols.specs.Grammar.{left_of, body_of}
 use Rattle.ylalr.specs.declared.items.Item.{Item}
 use Rattle.ylalr.specs.Collection.{Collection, bare_of, state_of}
 use Rattle.yrows.specs.Rows.{BitRows, Holds}
-use Rattle.yspread.specs.Links.{AreLinks, Link}
+use Rattle.yrows.specs.Links.{AreLinks, Link}
 use Rattle.yreasons.specs.Reasons.{Opens}
 
 -- the item k of state q leads to the symbol x

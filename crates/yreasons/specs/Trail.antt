@@ -6,7 +6,7 @@ use Rattle.ysymbols.specs.Grammar.{left_of, body_of}
 use Rattle.ysymbols.specs.Forms.{Nullable, First}
 use Rattle.ylalr.specs.declared.items.Item.{Item}
 use Rattle.ylalr.specs.Collection.{Collection, bare_of, state_of, goto_in}
-use Rattle.yspread.specs.Links.{AreLinks, Link}
+use Rattle.yrows.specs.Links.{AreLinks, Link}
 use Rattle.yreasons.specs.declared.reason.Place.{Place}
 use Rattle.yreasons.specs.declared.reason.Cause.{Cause}
 use Rattle.yreasons.specs.declared.reason.Cause.TheVariants.{Starts}

@@ -4,12 +4,12 @@ ghost use Rattle.std.specs.Prelude.{ℕ, ◌≡◌, ◌<◌, ◌∷◌, List, le
 ghost use Rattle.std.specs.Prelude.{MatchOption, IfOk, OnOk};
 ghost use Rattle.ysymbols.specs.Grammar.{body_of};
 ghost use Rattle.ylalr.specs.Collection.{bare_of, goto_in};
-ghost use Rattle.yspread.specs.Links.{AreLinks, MoreLinks};
+ghost use Rattle.yrows.specs.Links.{AreLinks, MoreLinks};
 ghost use Rattle.yreasons.specs.Trail.{AreBefore, IsListed};
 
 use std::alloc::{AllocError, Global};
 use ylalr::{Automaton, Item};
-use yspread::links::Links;
+use yrows::links::Links;
 
 /// The state that the goto over the symbol after the dot leads to, where one does.
 fn target(automaton: &Automaton, state: usize, item: Item) -> Option<usize>

@@ -5,16 +5,16 @@ ghost use Rattle.std.specs.Prelude.{IsTrue, MatchOption, IfOk, OnOk};
 ghost use Rattle.std.specs.List.{Contains};
 ghost use Rattle.ysymbols.specs.Grammar.{body_of};
 ghost use Rattle.yrows.specs.Rows.{IsSized};
-ghost use Rattle.yspread.specs.Links.{AreLinks, Link, MoreLinks};
+ghost use Rattle.yrows.specs.Links.{AreLinks, Link, MoreLinks};
 ghost use Rattle.ylalr.specs.Collection.{bare_of, state_of};
 ghost use Rattle.ylalr.specs.Sets.{IsAscending};
 ghost use Rattle.yreasons.specs.Leads.{AreOpenings, IsAmong, IsOpening, Leads};
 
 use std::alloc::{AllocError, Global};
 use ylalr::{Automaton, Item};
+use yrows::links::Links;
 use yrows::rows::Rows;
-use yspread::links::Links;
-use yspread::spread::spread;
+use yrows::spread::spread;
 use ysymbols::Sym;
 
 /// The symbol after the dot of an item, where one is.

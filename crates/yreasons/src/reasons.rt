@@ -13,7 +13,7 @@ use crate::trail::Trail;
 use std::alloc::{AllocError, Global};
 use std::marker::Model;
 use ylalr::{Automaton, Item};
-use yspread::links::Links;
+use yrows::links::Links;
 use ysymbols::Sym;
 
 /// An automaton, and for each of its states those that lead to it.

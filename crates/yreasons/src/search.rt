@@ -17,7 +17,7 @@ use crate::reason::{Cause, Place};
 use crate::trail::{Entry, Trail};
 use std::alloc::AllocError;
 use ylalr::{Automaton, END, Item};
-use yspread::links::Links;
+use yrows::links::Links;
 use ysymbols::Sym;
 
 /// An entry of a trail whose place has a token of itself, and why.

@@ -1,13 +1,12 @@
 //! Which other conflicts what a hint asks for settles: each is tried.
 
-use crate::blocks::{Block, Blocks, Entry};
+use crate::blocks::{Blocks, Entry};
 use crate::tried::{Marks, Tried, counted, tried_of};
 use std::alloc::Global;
 use ycounterexample::groups::Conflicts;
-use yexplain::advice::{Advice, advice_on};
+use yexplain::advice::{Advice, Hint};
 use yexplain::lines::Lines;
 use yexplain::reads::{Made, grammar_of, level_of, set};
-use yexplain::why::Question;
 use ysymbols::{Grammar, Sym};
 use ytables::Tables;
 
@@ -24,30 +23,23 @@ struct Trials<'a> {
 }
 
 impl Trials<'_> {
-    /// Marks a token that is to be on the last line, or takes the mark back.
-    fn mark(&mut self, token: Sym, is_set: bool) {
-        set(&mut self.marks.tokens, token, is_set);
-    }
-
-    /// Marks what gives a rule a name of its own, and the token a line where it has none.
-    fn mark_own(&mut self, token: Sym, rule: usize, is_set: bool) {
-        set(&mut self.marks.rules, rule, is_set);
-        if level_of(self.grammar, token).is_none() {
-            self.mark(token, is_set);
-        }
-    }
-
     /// Marks what an advice about a token and a rule asks for, or takes the marks back.
-    fn mark_all(&mut self, (token, rule): (Sym, usize), advice: Advice, is_set: bool) {
+    fn mark(&mut self, (token, rule): (Sym, usize), advice: Advice, is_set: bool) {
+        let tokens = &mut self.marks.tokens;
         match advice {
             Advice::End | Advice::Inner | Advice::General => {}
-            Advice::Both { .. } | Advice::Token(_) => self.mark(token, is_set),
-            Advice::Rule(giver) => self.mark(giver, is_set),
-            Advice::Lines(words) => {
-                self.mark(token, is_set);
-                self.mark(words.giver, is_set);
+            Advice::Both { .. } | Advice::Token(_) => set(tokens, token, is_set),
+            Advice::Rule(giver) => set(tokens, giver, is_set),
+            Advice::Lines { words, .. } => {
+                set(tokens, token, is_set);
+                set(tokens, words.giver, is_set);
             }
-            Advice::Own => self.mark_own(token, rule, is_set),
+            Advice::Own => {
+                if level_of(self.grammar, token).is_none() {
+                    set(tokens, token, is_set);
+                }
+                set(&mut self.marks.rules, rule, is_set);
+            }
         }
     }
 
@@ -58,44 +50,26 @@ impl Trials<'_> {
         !cells.is_empty() && counted(self.grammar, self.lines, &self.marks, cells) == 0
     }
 
-    /// The kinds that are settled with what is marked beside this one; none where this one isn't.
-    fn settled(&self, alloc: Global, number: usize) -> Made<Vec<usize>> {
+    /// The kinds that the hint for one settles beside it; none where it doesn't settle this one.
+    fn also(&mut self, alloc: Global, entry: Entry, hint: Option<Hint>) -> Made<Vec<usize>> {
         let mut settled = Vec::new(alloc);
-        if !self.is_settled(number) {
+        let Some(Hint::Settle(rule, advice)) = hint else {
+            return Ok(settled);
+        };
+        if !entry.kind.shift {
             return Ok(settled);
         }
-        for other in 0..self.cells.len() {
-            if other != number && self.is_settled(other) {
-                settled.push(other)?;
+        let pair = (entry.kind.token, rule);
+        self.mark(pair, advice, true);
+        if self.is_settled(entry.number) {
+            for other in 0..self.cells.len() {
+                if other != entry.number && self.is_settled(other) {
+                    settled.push(other)?;
+                }
             }
         }
+        self.mark(pair, advice, false);
         Ok(settled)
-    }
-
-    /// The kinds that the hint for one settles beside it.
-    fn also(&mut self, alloc: Global, asked: Question<'_>, entry: Entry) -> Made<Vec<usize>> {
-        match advice_on(asked) {
-            Some((candidate, advice)) if entry.kind.shift => {
-                let pair = (asked.token, candidate.rule);
-                self.mark_all(pair, advice, true);
-                let settled = self.settled(alloc, entry.number)?;
-                self.mark_all(pair, advice, false);
-                Ok(settled)
-            }
-            _ => Ok(Vec::new(alloc)),
-        }
-    }
-
-    /// Tries the hints of a block.
-    fn try_block(&mut self, alloc: Global, tables: &Tables, block: &mut Block) -> Made<()> {
-        let lines = self.lines;
-        for class in block.classes.iter_mut() {
-            if let Some(entry) = class.entries.first().copied() {
-                let asked = entry.cell(tables, lines);
-                class.also = self.also(alloc, asked, entry)?;
-            }
-        }
-        Ok(())
     }
 }
 
@@ -119,7 +93,11 @@ pub fn try_hints(
         marks: Marks::new(alloc, grammar)?,
     };
     for block in blocks.list.iter_mut() {
-        trials.try_block(alloc, tables, block)?;
+        for class in block.classes.iter_mut() {
+            if let Some(entry) = class.entries.first().copied() {
+                class.also = trials.also(alloc, entry, class.settled.hint)?;
+            }
+        }
     }
     Ok(())
 }

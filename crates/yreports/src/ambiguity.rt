@@ -14,47 +14,23 @@ use yview::page::Page;
 /// The most rules of a block that are set against what is taken.
 const MOST_RULES: usize = 3;
 
-/// What is taken of a conflict.
-fn taken_of(entry: &Entry) -> Choice {
-    match entry.kind.taken() {
-        Some(rule) => Choice::Reduce(rule),
-        None => Choice::Shift,
-    }
-}
-
 /// Which rivals a list allows that was found for a rule.
 fn allows_of(finding: &Finding, rule: usize) -> Option<Allows> {
     let list = finding.lists.iter().find(|list| list.rules.contains(&rule));
     list.map(|list| list.allows)
 }
 
-/// Which rivals the lists allow that were found for two rivals, where they need no further search.
-fn allowed(finding: &Finding, rivals: Rivals) -> Option<Allows> {
+/// Whether the lists that were found for two rivals allow both; `None` where they need no further
+/// search.
+fn are_both(finding: &Finding, rivals: Rivals) -> Option<bool> {
     let allows = allows_of(finding, rivals.second)?;
     let taken = rivals.first.rule();
     let lacks = taken.is_some_and(|rule| allows_of(finding, rule).is_none());
-    if allows == Allows::One && lacks {
-        return None;
+    match allows {
+        Allows::Both => Some(true),
+        Allows::One if !lacks => Some(false),
+        Allows::One | Allows::Found => None,
     }
-    Some(allows)
-}
-
-/// What can be found for a rule beside what is taken, where there is a list for it.
-fn answer_of(
-    seeker: &mut Seeker<'_>,
-    found: &mut Ambiguities,
-    allows: Option<Allows>,
-    rivals: Rivals,
-) -> Made<Option<Answer>> {
-    let are_both = match allows {
-        Some(Allows::Both) => true,
-        Some(Allows::One) => false,
-        Some(Allows::Found) | None => return Ok(None),
-    };
-    let tables = seeker.session.tables();
-    found
-        .seek(tables, &mut seeker.finder, (rivals, are_both))
-        .map(Some)
 }
 
 /// What can be found for the first conflict of a block: for what is taken and each of the first
@@ -73,24 +49,21 @@ pub fn answers_of(
                 state: entry.group.state,
                 token: entry.kind.token,
             },
-            first: taken_of(entry),
+            first: entry.kind.taken().map_or(Choice::Shift, Choice::Reduce),
             second: *rule,
         };
-        let allows = allowed(finding, rivals);
-        if let Some(answer) = answer_of(seeker, found, allows, rivals)? {
-            let is_last = answer.twins.is_some();
-            answers.push(answer)?;
-            if is_last {
-                break;
-            }
+        let Some(are_both) = are_both(finding, rivals) else {
+            continue;
+        };
+        let tables = seeker.session.tables();
+        let answer = found.seek(tables, &mut seeker.finder, (rivals, are_both))?;
+        let is_last = answer.twins.is_some();
+        answers.push(answer)?;
+        if is_last {
+            break;
         }
     }
     Ok(answers)
-}
-
-/// The most steps in which a sentence with two trees was sought without success.
-fn steps_of(answers: &[Answer]) -> Option<usize> {
-    answers.iter().filter_map(|answer| answer.steps).max()
 }
 
 /// Writes what was found for the first conflict of a block.
@@ -105,7 +78,7 @@ pub fn put_answers<W: Write>(
             return text.put_twins(alloc, page, twins);
         }
     }
-    if let Some(steps) = steps_of(answers) {
+    if let Some(steps) = answers.iter().filter_map(|answer| answer.steps).max() {
         let _ = writeln!(
             page,
             "  No sentence with two trees was found within {steps} steps."

@@ -84,7 +84,9 @@ impl BlockText<'_> {
     fn put_class<W: Write>(self, page: &mut Page<W>, class: &Class) {
         let words = ("  Also on ", ", ");
         self.put_others(page, &class.entries, words);
-        let _ = page.write_all(&class.reason);
+        if let Some(entry) = class.entries.first() {
+            let _ = entry.cell(self.tables, self.lines).put_grounds(page);
+        }
         put_also(page, class);
     }
 

@@ -1,11 +1,10 @@
 //! Conflicts in blocks: those of one state between the same rivals, with what settled them.
 
 use std::alloc::Global;
-use std::io::{self, Write};
 use ycounterexample::groups::{Conflicts, Group, Kind};
 use yexplain::lines::Lines;
 use yexplain::reads::Made;
-use yexplain::why::Question;
+use yexplain::why::{Question, Settled};
 use ytables::Tables;
 
 /// The most kinds that are put into blocks.
@@ -13,9 +12,6 @@ const MOST_KINDS: usize = 2_000;
 
 /// With so many blocks no further state is begun.
 const MOST_BLOCKS: usize = 200;
-
-/// How the lines begin that name rivals.
-const RIVALS: [&[u8]; 4] = [b"  shift ", b"  accept ", b"  reduce ", b"  and "];
 
 /// A kind of conflict, by its number among all kinds, from 0 on.
 #[derive(Clone, Copy, Drop)]
@@ -28,15 +24,13 @@ pub struct Entry {
     pub group: Group,
 }
 
-/// Conflicts of a block that one text explains, but for the name of their token.
+/// Conflicts of a block that are settled in one way.
 #[derive(Drop)]
 pub struct Class {
     /// The conflicts.
     pub entries: Vec<Entry>,
-    /// The text for the first of them: how its cell is settled, and how to choose otherwise.
-    pub reason: Vec<u8>,
-    /// The text with a mark in place of the token's name.
-    marked: Vec<u8>,
+    /// How their cells are settled.
+    pub settled: Settled,
     /// The conflicts, by their numbers, that the hint for the first of these settles beside it.
     pub also: Vec<usize>,
 }
@@ -82,82 +76,20 @@ impl Entry {
     }
 }
 
-/// A text without the lines that name rivals.
-fn without_rivals(alloc: Global, text: &[u8]) -> Made<Vec<u8>> {
-    let mut kept = Vec::new(alloc);
-    for line in text.split(|byte| *byte == b'\n') {
-        let is_rival = RIVALS.iter().any(|front| line.starts_with(*front));
-        if !line.is_empty() && !is_rival {
-            kept.extend_from_slice(line)?;
-            kept.push(b'\n')?;
-        }
-    }
-    Ok(kept)
-}
-
-/// Adds a word of a text: a mark in place of a name, whatever punctuation follows it.
-fn push_word(text: &mut Vec<u8>, word: &[u8], name: &[u8]) -> Made<()> {
-    let mut shown = word;
-    if let Some(rest) = word.strip_prefix(name) {
-        if rest.iter().all(|byte| b".,:;\n".contains(byte)) {
-            text.push(0)?;
-            shown = rest;
-        }
-    }
-    text.extend_from_slice(shown)?;
-    text.push(b' ')?;
-    Ok(())
-}
-
-/// A reason with a mark in place of a name.
-fn marked(alloc: Global, reason: &[u8], name: &[u8]) -> Made<Vec<u8>> {
-    let mut text = Vec::new(alloc);
-    for word in reason.split(|byte| *byte == b' ') {
-        push_word(&mut text, word, name)?;
-    }
-    Ok(text)
-}
-
-impl Class {
-    /// A conflict, and what is said of its cell.
-    fn new(alloc: Global, asked: Question<'_>, entry: Entry) -> io::Result<Class> {
-        let mut text = Vec::new(alloc);
-        asked.put_reason(&mut text)?;
-        let shown = asked.name();
-        let mut name = Vec::new(alloc);
-        write!(name, "{shown}")?;
-        let reason = without_rivals(alloc, &text)?;
-        let marked = marked(alloc, &reason, &name)?;
-        Ok(Class {
-            entries: Vec::from_slice(alloc, &[entry])?,
-            reason,
-            marked,
-            also: Vec::new(alloc),
-        })
-    }
-
-    /// Takes another class with the same text in, or gives it back.
-    fn join(&mut self, other: Class) -> Made<Option<Class>> {
-        if self.marked.as_slice() != other.marked.as_slice() {
-            return Ok(Some(other));
-        }
-        self.entries.extend_from_slice(&other.entries)?;
-        Ok(None)
-    }
-}
-
 impl Block {
-    /// Adds a class, where there is none with the same text that takes it in.
-    fn add(&mut self, class: Class) -> Made<()> {
-        let mut left = Some(class);
-        for known in self.classes.iter_mut() {
-            if let Some(class) = left.take() {
-                left = known.join(class)?;
+    /// Adds a conflict to the class that is settled as it is, which is begun where there is none.
+    fn add(&mut self, alloc: Global, entry: Entry, settled: Settled) -> Made<()> {
+        for class in self.classes.iter_mut() {
+            if class.settled == settled {
+                class.entries.push(entry)?;
+                return Ok(());
             }
         }
-        if let Some(class) = left {
-            self.classes.push(class)?;
-        }
+        self.classes.push(Class {
+            entries: Vec::from_slice(alloc, &[entry])?,
+            settled,
+            also: Vec::new(alloc),
+        })?;
         Ok(())
     }
 }
@@ -177,12 +109,12 @@ impl Blocks {
         Ok(place)
     }
 
-    /// Adds a conflict with what is said of its cell.
-    fn add(&mut self, alloc: Global, entry: Entry, class: Class) -> Made<()> {
+    /// Adds a conflict.
+    fn add(&mut self, alloc: Global, entry: Entry, settled: Settled) -> Made<()> {
         let place = self.place(alloc, entry)?;
         self.kinds = self.kinds.saturating_add(1);
         match self.list.get_mut(place) {
-            Some(block) => block.add(class),
+            Some(block) => block.add(alloc, entry, settled),
             None => Ok(()),
         }
     }
@@ -195,12 +127,7 @@ impl Blocks {
 }
 
 /// The blocks of the first states.
-pub fn blocks_of(
-    alloc: Global,
-    tables: &Tables,
-    lines: &Lines,
-    found: &Conflicts,
-) -> io::Result<Blocks> {
+pub fn blocks_of(alloc: Global, tables: &Tables, lines: &Lines, found: &Conflicts) -> Made<Blocks> {
     let mut blocks = Blocks {
         list: Vec::new(alloc),
         kinds: 0,
@@ -214,9 +141,7 @@ pub fn blocks_of(
         if blocks.is_full(&entry) {
             break;
         }
-        let asked = entry.cell(tables, lines);
-        let class = Class::new(alloc, asked, entry)?;
-        blocks.add(alloc, entry, class)?;
+        blocks.add(alloc, entry, entry.cell(tables, lines).settled())?;
     }
     Ok(blocks)
 }

@@ -1,8 +1,9 @@
 //! Rules that others cover: what they derive comes of those too, so the language stays the same
 //! without them.
 
+use crate::changed::conflicts_after;
+use crate::changed_text::Change;
 use std::alloc::Global;
-use ychanged::{Change, conflicts_after};
 use yexplain::lines::Lines;
 use yexplain::reads::{Made, body_of, grammar_of, left_of, set};
 use ysymbols::{Grammar, Sym};
@@ -28,14 +29,9 @@ pub struct Covered {
 /// The nonterminal that a rule has alone in its body.
 fn link_of(grammar: &Grammar, rule: usize) -> Option<Sym> {
     match body_of(grammar, rule) {
-        [only] if !is_token(grammar, *only) => Some(*only),
+        [only] if *only < grammar.symbols() && !grammar.is_token(*only) => Some(*only),
         _ => None,
     }
-}
-
-/// Whether a symbol is a token.
-fn is_token(grammar: &Grammar, symbol: Sym) -> bool {
-    symbol < grammar.symbols() && grammar.is_token(symbol)
 }
 
 /// The rules of one symbol that lead from a nonterminal to others without a rule: for each the last
@@ -49,26 +45,16 @@ fn links_from(
     let mut reached = vec![in alloc; None; grammar.symbols()]?;
     for _ in 0..MOST_LINKS {
         for rule in 1..grammar.rules() {
-            add_link(grammar, &mut reached, (from, without), rule);
+            let (Some(left), Some(to)) = (left_of(grammar, rule), link_of(grammar, rule)) else {
+                continue;
+            };
+            let is_reached = left == from || is_some(&reached, left);
+            if rule != without && is_reached && to != from && !is_some(&reached, to) {
+                set(&mut reached, to, Some(rule));
+            }
         }
     }
     Ok(reached)
-}
-
-/// Notes what a rule of one symbol reaches.
-fn add_link(
-    grammar: &Grammar,
-    reached: &mut [Option<usize>],
-    (from, without): (Sym, usize),
-    rule: usize,
-) {
-    let (Some(left), Some(to)) = (left_of(grammar, rule), link_of(grammar, rule)) else {
-        return;
-    };
-    let is_reached = left == from || is_some(reached, left);
-    if rule != without && is_reached && to != from && !is_some(reached, to) {
-        set(reached, to, Some(rule));
-    }
 }
 
 /// Whether a symbol is reached.

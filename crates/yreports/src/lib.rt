@@ -5,7 +5,8 @@
 //! what else a hint settles, `leading` the items of a state that lead to a shift, `numbers` the
 //! numbers of conflicts, `causes` what many have in common, found by changes that are tried on all
 //! cells (`tried`) and by tables without a rule that others cover (`covered`), and `splitting` what
-//! mends a conflict of merged states. Lists of tokens are written and kept by `ylists`.
+//! mends a conflict of merged states. Both ask `changed` for the tables of a changed grammar, whose
+//! text `changed_text` writes. Lists of tokens are written and kept by `ylists`.
 #![tactic(auto)]
 
 mod also;
@@ -15,6 +16,8 @@ mod block_text;
 mod blocks;
 mod cause_text;
 mod causes;
+mod changed;
+mod changed_text;
 mod covered;
 mod leading;
 mod numbers;

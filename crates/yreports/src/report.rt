@@ -10,14 +10,13 @@ use crate::cause_text::CauseText;
 use crate::causes::causes_of;
 use crate::leading::put_leading;
 use crate::splitting::{MOST_SPLITS, split_of};
-use crate::warnings::put_warnings;
+use crate::warnings::warnings_of;
 use std::alloc::Global;
 use std::io::{self, Write};
 use std::rt::Files;
 use yambiguity::answer::Ambiguities;
 use ycounterexample::finding::{Finding, Seeker, file_tokens};
-use ycounterexample::groups::{Conflicts, Kind};
-use ycounterexample::trial::empty_session;
+use ycounterexample::groups::Conflicts;
 use yexplain::lines::Lines;
 use yexplain::reads::{Made, grammar_of};
 use yexplain::sources::sources_of;
@@ -28,6 +27,7 @@ use ylists::list_text::{ListText, put_unfound};
 use ylists::saving::{Folder, put_failed};
 use yparse::Session;
 use yreasons::Reasons;
+use ysearch::trial::empty_session;
 use ytables::Tables;
 use yview::page::Page;
 
@@ -61,15 +61,6 @@ struct Report<'a, W, F> {
     splits: usize,
 }
 
-/// Whether a block is the first one of its state.
-fn begins_state(blocks: &[Block], place: usize) -> bool {
-    let before = place.checked_sub(1).and_then(|place| blocks.get(place));
-    match (before, blocks.get(place)) {
-        (Some(before), Some(block)) => !before.first.is_beside(&block.first),
-        _ => true,
-    }
-}
-
 impl<W: Write, F: Files + AllocGlobal + Clone + Drop> Report<'_, W, F> {
     /// Writes the conflicts of the first states, with lists, as long as there are steps to seek
     /// them, and says how many kinds these are.
@@ -77,10 +68,14 @@ impl<W: Write, F: Files + AllocGlobal + Clone + Drop> Report<'_, W, F> {
         let list = blocks.list.as_slice();
         let mut seeker = Seeker::new(self.alloc, session)?;
         let mut found = Ambiguities::new(self.alloc);
-        for (place, block) in list.iter().enumerate() {
-            if begins_state(list, place) && !seeker.finder.has_steps() {
+        let (path, lines) = (self.path, self.lines);
+        let mut last: Option<&Block> = None;
+        for block in list {
+            let is_beside = last.is_some_and(|last| last.first.is_beside(&block.first));
+            if !is_beside && !seeker.finder.has_steps() {
                 return Ok(block.first.number);
             }
+            last = Some(block);
             let finding = seeker.find(&block.first.kind, block.first.group)?;
             let answers = answers_of(self.alloc, &mut seeker, &mut found, &block.first, &finding)?;
             let tables = seeker.session.tables();
@@ -92,7 +87,12 @@ impl<W: Write, F: Files + AllocGlobal + Clone + Drop> Report<'_, W, F> {
                 trees: &found.trees,
             };
             put_answers(self.alloc, self.page, text, &answers)?;
-            self.put_further(tables, block);
+            BlockText {
+                path,
+                tables,
+                lines,
+            }
+            .put_further(self.page, block);
         }
         Ok(blocks.kinds)
     }
@@ -105,21 +105,15 @@ impl<W: Write, F: Files + AllocGlobal + Clone + Drop> Report<'_, W, F> {
         } else {
             self.page.put(": ");
             put_counts(self.page, tables, found);
-            self.put_causes(tables, found)?;
+            let text = CauseText {
+                grammar: grammar_of(tables),
+                lines: self.lines,
+            };
+            if let Some(causes) = causes_of(self.alloc, tables, self.lines, found)? {
+                text.put(self.page, &causes)?;
+            }
         }
         self.page.checked()
-    }
-
-    /// Writes what the conflicts come from, where there are several kinds.
-    fn put_causes(&mut self, tables: &Tables, found: &Conflicts) -> io::Result<()> {
-        let text = CauseText {
-            grammar: grammar_of(tables),
-            lines: self.lines,
-        };
-        match causes_of(self.alloc, tables, self.lines, found)? {
-            Some(causes) => text.put(self.page, &causes),
-            None => Ok(()),
-        }
     }
 
     /// Writes the conflicts of a block, why they are settled so, what leads to the shift of the
@@ -140,29 +134,6 @@ impl<W: Write, F: Files + AllocGlobal + Clone + Drop> Report<'_, W, F> {
         Ok(())
     }
 
-    /// Writes which copy of a nonterminal splits merged states, where one does.
-    fn put_split(&mut self, tables: &Tables, kind: &Kind) -> io::Result<()> {
-        if self.splits == 0 {
-            return Ok(());
-        }
-        self.splits = self.splits.saturating_sub(1);
-        match split_of(self.alloc, tables, self.lines, kind)? {
-            Some(split) => split.put(self.page, grammar_of(tables), self.lines),
-            None => Ok(()),
-        }
-    }
-
-    /// Writes on which tokens the other conflicts of a block are settled otherwise.
-    fn put_further(&mut self, tables: &Tables, block: &Block) {
-        let (path, lines) = (self.path, self.lines);
-        BlockText {
-            path,
-            tables,
-            lines,
-        }
-        .put_further(self.page, block);
-    }
-
     /// Writes the lists for the first conflict of a block.
     fn put_finding(&mut self, tables: &Tables, block: &Block, finding: &Finding) -> io::Result<()> {
         let entry = block.first;
@@ -175,8 +146,11 @@ impl<W: Write, F: Files + AllocGlobal + Clone + Drop> Report<'_, W, F> {
             lists: finding.lists.len(),
         };
         text.put_merged(self.page, finding);
-        if text.is_merged(finding) {
-            self.put_split(tables, &entry.kind)?;
+        if text.is_merged(finding) && self.splits > 0 {
+            self.splits = self.splits.saturating_sub(1);
+            if let Some(split) = split_of(self.alloc, tables, self.lines, &entry.kind)? {
+                split.put(self.page, grammar_of(tables), self.lines)?;
+            }
         }
         for (part, list) in finding.lists.iter().enumerate() {
             text.put_list(self.page, list);
@@ -244,32 +218,26 @@ fn put_lists<'a, W: Write, F: Files + AllocGlobal + Clone + Drop>(
     Ok(failed)
 }
 
-/// Writes these conflicts and the warnings of a session's grammar, and what couldn't be written,
-/// where there is something, and gives the exit status.
-fn put_both<W: Write, E: Write, F: Files + AllocGlobal + Clone + Drop>(
+/// Writes the conflicts and the warnings of a grammar, and gives the exit status.
+fn put_all<W: Write, E: Write, F: Files + AllocGlobal + Clone + Drop>(
     rt: &F,
-    asked: Asked<'_>,
-    found: &Conflicts,
     page: &mut Page<W>,
     errors: &mut E,
+    asked: Asked<'_>,
     session: &mut Session,
     lines: &Lines,
 ) -> io::Result<u8> {
-    let failed = put_lists(rt, &mut *page, asked, session, lines, found)?;
-    let warnings = put_warnings(
-        &mut *page,
-        asked.grammar,
-        rt.alloc(),
-        session.tables(),
-        lines,
-    )?;
+    let found = Conflicts::new(rt.alloc(), session.tables())?;
+    let failed = put_lists(rt, &mut *page, asked, session, lines, &found)?;
+    let warnings = warnings_of(rt.alloc(), asked.grammar, session.tables(), lines)?;
+    if !warnings.all.is_empty() {
+        page.end();
+    }
+    warnings.put(&mut *page, "ydebug")?;
     page.checked()?;
-    let is_bad = found.cells > 0 || warnings > 0;
-    put_failed(
-        errors,
-        failed.as_ref(),
-        if asked.strict && is_bad { 1 } else { 0 },
-    )
+    let is_bad = found.cells > 0 || !warnings.all.is_empty();
+    let status = if asked.strict && is_bad { 1 } else { 0 };
+    put_failed(errors, failed.as_ref(), status)
 }
 
 /// Writes the conflicts and the warnings of a grammar that is open, and gives the exit status: 0;
@@ -287,8 +255,7 @@ pub fn put_conflicts<W: Write, E: Write, F: Files + AllocGlobal + Clone + Drop>(
     // all lists are kept, or none, also where nobody reads the report any more
     let mut out = Steady::new(out, asked.save.is_some());
     let mut page = Page::new(&mut out, false);
-    let found = Conflicts::new(rt.alloc(), session.tables())?;
-    let status = put_both(rt, asked, &found, &mut page, errors, &mut session, &lines)?;
+    let status = put_all(rt, &mut page, errors, asked, &mut session, &lines)?;
     out.finish()?;
     Ok(status)
 }

@@ -1,8 +1,9 @@
 //! Copies of nonterminals that split states which were merged: each was tried by tables of its own.
 
+use crate::changed::conflicts_after;
+use crate::changed_text::Change;
 use std::alloc::Global;
 use std::io::{self, Write};
-use ychanged::{Change, conflicts_after};
 use ycounterexample::groups::Kind;
 use yexplain::lines::{Lines, is_inner};
 use yexplain::reads::{Made, body_of, grammar_of, left_of};

@@ -2,13 +2,13 @@
 
 use std::alloc::Global;
 use std::mem;
-use ycells::{Rival, settle};
 use yexplain::lines::{Lines, last_token};
 use yexplain::reads::{
     Made, action_of, body_of, candidate_of, default_of, grammar_of, items_of, level_of, next_of,
     ready_of, rule_of, set, shift_of,
 };
 use ylalr::token_count;
+use yreasons::{Rival, settle};
 use ysymbols::{Grammar, Precedence, Sym};
 use ytables::{Action, Class, Tables, standing_between};
 

@@ -2,16 +2,15 @@
 
 use crate::unused::Done;
 use std::alloc::Global;
-use std::io::Write;
+use std::io::{self, Write};
 use yexplain::lines::{Lines, Mention, Spot};
 use yexplain::reads::{Made, grammar_of, is_reachable, left_of, level_of, set};
 use yexplain::text::{Name, RuleText};
+use yfiles::diagnostic::{Diagnostic, Diagnostics, Severity};
 use ylalr::ERROR;
-use ylists::kinds::put_front;
-use ysourcemap::Role;
-use ysymbols::{Grammar, Sym, let_go};
+use ysymbols::{Grammar, Sym};
+use ysyntax::Role;
 use ytables::Tables;
-use yview::page::Page;
 
 /// How symbols are named in a file.
 #[derive(Drop)]
@@ -25,28 +24,14 @@ struct Named {
     in_body: Vec<bool>,
 }
 
-/// A warning: the place of the file that it is about, where there is one, and what it says.
-pub struct Warning {
-    /// The place.
-    pub spot: Option<Spot>,
-    /// What it says.
-    pub text: String,
-}
-
-impl Drop for Warning {
-    // A call in each owner, which keeps their proofs short.
-    fn drop(self) {
-        let_go!(self: Warning { spot, text });
-    }
-}
-
 /// What seeks warnings.
 #[derive(Drop)]
 struct Warner<'a> {
     alloc: Global,
+    path: &'a str,
     grammar: &'a Grammar,
     lines: &'a Lines,
-    found: Vec<Warning>,
+    found: Diagnostics,
 }
 
 impl Named {
@@ -93,29 +78,38 @@ fn note(spots: &mut [Option<Spot>], mention: Mention) {
 }
 
 impl Warner<'_> {
-    /// Adds a warning.
-    fn add(&mut self, spot: Option<Spot>, text: String) -> Made<()> {
-        self.found.push(Warning { spot, text })?;
-        Ok(())
+    /// A warning.
+    fn begin(&self, spot: Option<Spot>) -> Made<Diagnostic> {
+        let mut one = Diagnostic::new(self.alloc, Some(self.path), spot)?;
+        one.severity = Severity::Warning;
+        Ok(one)
     }
 
     /// Adds a warning about a symbol between two texts.
-    fn warn(&mut self, spot: Option<Spot>, before: &str, symbol: Sym, after: &str) -> Made<()> {
-        let name = Name(self.grammar, symbol);
-        let text = format!(in self.alloc; "{before}{name}{after}")?;
-        self.add(spot, text)
+    fn warn(
+        &mut self,
+        spot: Option<Spot>,
+        before: &str,
+        symbol: Sym,
+        after: &str,
+    ) -> io::Result<()> {
+        let (mut one, name) = (self.begin(spot)?, Name(self.grammar, symbol));
+        write!(one.message, "{before}{name}{after}")?;
+        Ok(self.found.add(one)?)
     }
 
     /// Rules of symbols that can be reached, which are never reduced.
-    fn add_lost(&mut self, done: &Done) -> Made<()> {
+    fn add_lost(&mut self, done: &Done) -> io::Result<()> {
         for rule in 1..self.grammar.rules() {
             let is_done = done.reduced.get(rule).copied().unwrap_or(true);
             if !is_done && self.is_live(rule) {
                 let shown = RuleText(self.grammar, rule);
-                let text = format!(in self.alloc;
+                let mut one = self.begin(self.lines.spot(rule))?;
+                write!(
+                    one.message,
                     "rule {rule} is never reduced, since it lost every cell:  {shown}"
                 )?;
-                self.add(self.lines.spot(rule), text)?;
+                self.found.add(one)?;
             }
         }
         Ok(())
@@ -127,7 +121,7 @@ impl Warner<'_> {
     }
 
     /// Precedences of tokens that are used, but settled no cell.
-    fn add_idle_tokens(&mut self, done: &Done, named: &Named) -> Made<()> {
+    fn add_idle_tokens(&mut self, done: &Done, named: &Named) -> io::Result<()> {
         for token in 0..self.grammar.symbols() {
             let settles = done.by_token.get(token).copied().unwrap_or(true);
             let is_meant = named.is_used(token) && level_of(self.grammar, token).is_some();
@@ -140,7 +134,7 @@ impl Warner<'_> {
     }
 
     /// Precedences by `%prec` that settled no cell.
-    fn add_idle_rules(&mut self, done: &Done) -> Made<()> {
+    fn add_idle_rules(&mut self, done: &Done) -> io::Result<()> {
         for rule in 1..self.grammar.rules() {
             let settles = done.by_rule.get(rule).copied().unwrap_or(true);
             if !settles && self.lines.prec(rule).is_some() && self.is_live(rule) {
@@ -149,15 +143,16 @@ impl Warner<'_> {
                 } else {
                     "may settle"
                 };
-                let text = format!(in self.alloc; "the %prec of rule {rule} {may} nothing")?;
-                self.add(self.lines.spot(rule), text)?;
+                let mut one = self.begin(self.lines.spot(rule))?;
+                write!(one.message, "the %prec of rule {rule} {may} nothing")?;
+                self.found.add(one)?;
             }
         }
         Ok(())
     }
 
     /// Tokens that are declared and named in no rule.
-    fn add_unused(&mut self, named: &Named) -> Made<()> {
+    fn add_unused(&mut self, named: &Named) -> io::Result<()> {
         for token in 0..self.grammar.symbols() {
             let is_token = self.grammar.is_token(token) && token > ERROR;
             if is_token && !named.is_used(token) {
@@ -169,7 +164,7 @@ impl Warner<'_> {
     }
 
     /// Symbols that are used, but can't be reached.
-    fn add_unreachable(&mut self, named: &Named) -> Made<()> {
+    fn add_unreachable(&mut self, named: &Named) -> io::Result<()> {
         for symbol in 0..self.grammar.symbols() {
             let is_left = !self.grammar.is_token(symbol);
             let is_in_rules = is_left || named.in_body.get(symbol) == Some(&true);
@@ -183,17 +178,23 @@ impl Warner<'_> {
     }
 }
 
-/// What deserves a warning in a grammar, in the order in which it is written.
-pub fn warnings_of(alloc: Global, tables: &Tables, lines: &Lines) -> Made<Vec<Warning>> {
+/// What deserves a warning in a grammar, of the file of this path.
+pub fn warnings_of(
+    alloc: Global,
+    path: &str,
+    tables: &Tables,
+    lines: &Lines,
+) -> io::Result<Diagnostics> {
     let grammar = grammar_of(tables);
     let mut done = Done::new(alloc, tables, lines)?;
     done.spread(grammar, lines);
     let named = Named::new(alloc, grammar, lines.mentions())?;
     let mut warner = Warner {
         alloc,
+        path,
         grammar,
         lines,
-        found: Vec::new(alloc),
+        found: Diagnostics::new(alloc),
     };
     warner.add_lost(&done)?;
     warner.add_idle_tokens(&done, &named)?;
@@ -202,29 +203,4 @@ pub fn warnings_of(alloc: Global, tables: &Tables, lines: &Lines) -> Made<Vec<Wa
     warner.add_unreachable(&named)?;
     let Warner { found, .. } = warner;
     Ok(found)
-}
-
-/// Writes a warning.
-fn put_warning<W: Write>(page: &mut Page<W>, path: &str, warning: &Warning) {
-    put_front(page, path, warning.spot);
-    page.line(&warning.text);
-}
-
-/// Writes a line for each warning on this file, after an empty one, and says how many there are. It
-/// fails only when memory runs out.
-pub fn put_warnings<W: Write>(
-    page: &mut Page<W>,
-    path: &str,
-    alloc: Global,
-    tables: &Tables,
-    lines: &Lines,
-) -> Made<usize> {
-    let warnings = warnings_of(alloc, tables, lines)?;
-    if !warnings.is_empty() {
-        page.end();
-    }
-    for warning in &warnings {
-        put_warning(page, path, warning);
-    }
-    Ok(warnings.len())
 }

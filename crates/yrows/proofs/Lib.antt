@@ -3,3 +3,7 @@ pub mod MarkSteps
 pub mod RowLemmas
 pub mod Turn
 pub mod PackedSteps
+pub mod LinkSteps
+pub mod OrderSteps
+pub mod Spreading
+pub mod WaitingSteps

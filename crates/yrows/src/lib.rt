@@ -1,8 +1,13 @@
-//! Rows of bits, lists and marks; and rows packed over one list of cells.
+//! Rows of bits, lists and marks; rows packed over one list of cells; and rows that give what they
+//! have along links, until none grows.
 #![tactic(auto)]
 
+pub mod links;
 pub mod list;
 pub mod marks;
+pub mod order;
 pub mod packed;
 pub mod rows;
 pub mod slots;
+pub mod spread;
+pub mod waiting;

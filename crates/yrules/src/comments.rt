@@ -8,7 +8,7 @@ use yexplain::lines::Site;
 use yexplain::reads::Made;
 use ylexemes::front::part_at;
 use ylexemes::part::Part;
-use ysourcemap::Role;
+use ysyntax::Role;
 
 /// A comment among the rules of a file.
 #[derive(Clone, Copy)]
@@ -31,18 +31,6 @@ struct Gap {
     after: Option<usize>,
 }
 
-impl Gap {
-    /// The alternative that a comment here belongs to: the one that stands before it on its line;
-    /// where none does, the one that begins next, and else the one that it stands in.
-    fn owner(self, is_below: bool) -> Option<usize> {
-        if is_below {
-            self.after.or(self.before)
-        } else {
-            self.before.or(self.after)
-        }
-    }
-}
-
 /// The alternative that begins with a lexeme of this role.
 pub fn begun_by(role: Role) -> Option<usize> {
     match role {
@@ -62,89 +50,70 @@ fn part_from(source: &[u8], at: usize) -> Option<(Part<'_>, &[u8])> {
     Some((part, text))
 }
 
-/// The comments of a file that are found so far.
-#[derive(Drop)]
-struct Found<'a> {
-    source: &'a [u8],
-    comments: Vec<Comment<'a>>,
-}
-
-impl<'a> Found<'a> {
-    /// Adds a comment of an alternative.
-    fn push(&mut self, owner: Option<usize>, at: usize, text: &'a [u8]) -> Made<()> {
-        if let Some(alternative) = owner {
-            self.comments.push(Comment {
+/// Adds the comments of a gap, which goes up to the next lexeme. A comment belongs to the
+/// alternative that stands before it on its line; where none does, to the one that begins next, and
+/// else to the one that it stands in.
+fn add_gap<'a>(comments: &mut Vec<Comment<'a>>, source: &'a [u8], gap: Gap) -> Made<()> {
+    let mut at = gap.from;
+    let mut owner = gap.before.or(gap.after);
+    for _ in gap.from..source.len() {
+        let Some((part, text)) = part_from(source, at) else {
+            break;
+        };
+        match (part, owner) {
+            (Part::Comment, Some(alternative)) => comments.push(Comment {
                 alternative,
                 at,
                 text,
-            })?;
+            })?,
+            (Part::Lexeme(_), _) => break,
+            _ => {}
         }
-        Ok(())
-    }
-
-    /// Adds the comments of a gap, which goes up to the next lexeme.
-    fn add_gap(&mut self, gap: Gap) -> Made<()> {
-        let source = self.source;
-        let mut at = gap.from;
-        let mut is_below = false;
-        for _ in gap.from..source.len() {
-            let Some((part, text)) = part_from(source, at) else {
-                break;
-            };
-            match part {
-                Part::Blank => {}
-                Part::Comment => self.push(gap.owner(is_below), at, text)?,
-                Part::Lexeme(_) => break,
-            }
-            is_below = is_below || text.contains(&b'\n');
-            at = at.saturating_add(text.len());
+        if text.contains(&b'\n') {
+            owner = gap.after.or(gap.before);
         }
-        Ok(())
+        at = at.saturating_add(text.len());
     }
-
-    /// Adds the comments in a lexeme, between a left side and its colon, and those after it.
-    fn add_around(&mut self, site: Site, gap: Gap) -> Made<()> {
-        if site.name_end < site.end {
-            self.add_gap(Gap {
-                from: site.name_end,
-                before: gap.before,
-                after: None,
-            })?;
-        }
-        self.add_gap(gap)
-    }
+    Ok(())
 }
 
-/// Where the lexemes begin and end that stand from the first mark on, up to the second one.
-fn among_rules(sites: &[Site]) -> (usize, usize) {
-    let is_mark = |site: &Site| site.role == Role::Mark;
-    let first = sites.iter().position(is_mark).unwrap_or(sites.len());
-    let last = sites.iter().rposition(is_mark).unwrap_or(first);
-    (first, if last > first { last } else { sites.len() })
+/// The lexemes from the first mark on, up to the second one.
+fn among_rules(sites: &[Site]) -> &[Site] {
+    let mut first = None;
+    for (index, site) in sites.iter().enumerate() {
+        match (site.role, first) {
+            (Role::Mark, None) => first = Some(index),
+            (Role::Mark, Some(first)) => return sites.get(first..index).unwrap_or(&[]),
+            _ => {}
+        }
+    }
+    match first {
+        Some(first) => sites.get(first..).unwrap_or(&[]),
+        None => &[],
+    }
 }
 
 /// The comments among the rules of a text with these lexemes, in their order, each with its
-/// alternative.
+/// alternative. Some stand in a lexeme, between a left side and its colon.
 pub fn comments_of<'a>(alloc: Global, source: &'a [u8], sites: &[Site]) -> Made<Vec<Comment<'a>>> {
-    let comments = Vec::new(alloc);
-    let mut found = Found { source, comments };
-    let (from, to) = among_rules(sites);
-    let sites = sites.get(from..to).unwrap_or(&[]);
+    let mut comments = Vec::new(alloc);
+    let sites = among_rules(sites);
     let mut before = None;
     for (index, site) in sites.iter().enumerate() {
         before = begun_by(site.role).or(before);
-        let next = sites.get(index.saturating_add(1));
-        let after = next.and_then(|next| begun_by(next.role));
-        let from = site.end;
-        found.add_around(
-            *site,
-            Gap {
-                from,
-                before,
-                after,
-            },
-        )?;
+        let mut gap = Gap {
+            from: site.name_end,
+            before,
+            after: None,
+        };
+        if gap.from < site.end {
+            add_gap(&mut comments, source, gap)?;
+        }
+        gap.from = site.end;
+        if let Some(next) = sites.get(index.saturating_add(1)) {
+            gap.after = begun_by(next.role);
+        }
+        add_gap(&mut comments, source, gap)?;
     }
-    let Found { comments, .. } = found;
     Ok(comments)
 }

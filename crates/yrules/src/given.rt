@@ -2,7 +2,7 @@
 
 use crate::comments::Comment;
 use crate::refusal::{Refusal, Trouble, Why};
-use std::alloc::{AllocError, Global};
+use std::alloc::Global;
 use yskeleton::is_c_name;
 
 /// A name that a comment gives to an alternative.
@@ -23,39 +23,32 @@ fn told_in(text: &[u8]) -> Option<&[u8]> {
     Some(text.strip_prefix(b":")?.trim_ascii_start())
 }
 
-impl<'a> Given<'a> {
-    /// The name that a comment gives, where it gives one.
-    fn by(comment: &Comment<'a>) -> Option<Given<'a>> {
-        let told = told_in(comment.text)?;
-        let front = comment.text.len().saturating_sub(told.len());
-        Some(Given {
-            alternative: comment.alternative,
-            at: comment.at.saturating_add(front),
-            name: told.strip_suffix(b"*/").unwrap_or(told).trim_ascii_end(),
-        })
-    }
-
-    /// Why the name is refused after another one, where it is.
-    fn wrong(&self, last: Option<&Given<'_>>) -> Option<Why> {
-        let is_second = last.map_or(false, |last| last.alternative == self.alternative);
-        if !is_c_name(self.name) {
-            Some(Why::NoName)
-        } else if is_second {
-            Some(Why::Second)
-        } else {
-            None
-        }
-    }
-}
-
 /// The names that comments give, in the order of their alternatives.
 pub fn given_in<'a>(alloc: Global, comments: &[Comment<'a>]) -> Result<Vec<Given<'a>>, Trouble> {
     let mut names: Vec<Given<'a>> = Vec::new(alloc);
-    for given in comments.iter().filter_map(|comment| Given::by(comment)) {
-        if let Some(why) = given.wrong(names.last()) {
-            return Err(Trouble::Refused(Refusal { at: given.at, why }));
+    let mut last = None;
+    for comment in comments {
+        let Some(told) = told_in(comment.text) else {
+            continue;
+        };
+        let alternative = comment.alternative;
+        let front = comment.text.len().saturating_sub(told.len());
+        let at = comment.at.saturating_add(front);
+        let name = told.strip_suffix(b"*/").unwrap_or(told).trim_ascii_end();
+        if !is_c_name(name) {
+            let why = Why::NoName;
+            return Err(Trouble::Refused(Refusal { at, why }));
         }
-        names.push(given).map_err(AllocError::from)?;
+        if last == Some(alternative) {
+            let why = Why::Second;
+            return Err(Trouble::Refused(Refusal { at, why }));
+        }
+        last = Some(alternative);
+        names.push(Given {
+            alternative,
+            at,
+            name,
+        })?;
     }
     Ok(names)
 }

@@ -1,55 +1,53 @@
 //! The header in C.
 
 use crate::sheet::Sheet;
-use std::io::{self, Write};
-use yexplain::text::{Bytes, RuleText};
+use yexplain::text::RuleText;
+use youtput::Output;
 
 /// The first line.
 const ABOUT: &str = "/* Names for the numbers of a table of yacc: ydebug rules made them. */";
 
-/// What follows a member of an enum: nothing after the last one.
-fn comma(is_last: bool) -> &'static str {
-    if is_last { "" } else { "," }
-}
-
-/// Writes the rules as members of an enum.
-fn put_rules<W: Write>(out: &mut W, sheet: Sheet<'_>) -> io::Result<()> {
-    let rules = sheet.grammar.rules();
-    writeln!(out, "enum {{")?;
-    for rule in 1..rules {
-        let name = Bytes(sheet.names.name(rule));
-        let comma = comma(rule.saturating_add(1) == rules);
-        let text = RuleText(sheet.grammar, rule);
-        writeln!(out, "  {name} = {rule}{comma} /* {text} */")?;
-    }
-    writeln!(out, "}};")
-}
-
-/// Writes the tokens likewise, by the numbers that a lexer gives.
-fn put_tokens<W: Write>(out: &mut W, sheet: Sheet<'_>) -> io::Result<()> {
+/// Writes the tokens as members of an enum, by the numbers that a lexer gives.
+fn put_tokens(out: &mut Output, sheet: Sheet<'_>) {
     if sheet.tokens.is_empty() {
-        return Ok(());
+        return;
     }
-    writeln!(out, "\n/* The numbers that a lexer gives. */\nenum {{")?;
+    out.line("\n/* The numbers that a lexer gives. */\nenum {");
     for (index, token) in sheet.tokens.iter().enumerate() {
-        let (name, number) = (Bytes(token.name), token.number);
-        let comma = comma(index.saturating_add(1) == sheet.tokens.len());
-        writeln!(out, "  TOKEN_{name} = {number}{comma}")?;
+        let is_last = index.saturating_add(1) == sheet.tokens.len();
+        out.put("  TOKEN_");
+        out.put_characters(token.name);
+        out.put(" = ");
+        out.signed(i64::from(token.number));
+        out.line(if is_last { "" } else { "," });
     }
-    writeln!(out, "}};")
+    out.line("};");
 }
 
 /// Writes the header. Its guard has the digest, so those of two grammars can stand together.
-pub fn put_header<W: Write>(out: &mut W, sheet: Sheet<'_>) -> io::Result<()> {
-    let digest = sheet.digest;
-    writeln!(out, "{ABOUT}")?;
-    writeln!(
-        out,
-        "#ifndef YD_RULES_{digest:08x}\n#define YD_RULES_{digest:08x}\n"
-    )?;
-    writeln!(out, "/* The digest of the table, for yd_read_checked. */")?;
-    writeln!(out, "#define TABLE_DIGEST 0x{digest:08x}UL\n")?;
-    put_rules(out, sheet)?;
-    put_tokens(out, sheet)?;
-    writeln!(out, "\n#endif")
+pub fn put_header(out: &mut Output, sheet: Sheet<'_>) {
+    out.line(ABOUT);
+    for front in ["#ifndef YD_RULES_", "#define YD_RULES_"] {
+        out.put(front);
+        out.hex(sheet.digest);
+        out.line("");
+    }
+    out.line("\n/* The digest of the table, for yd_read_checked. */");
+    out.put("#define TABLE_DIGEST 0x");
+    out.hex(sheet.digest);
+    out.line("UL\n\nenum {");
+    let rules = sheet.grammar.rules();
+    for rule in 1..rules {
+        let is_last = rule.saturating_add(1) == rules;
+        out.put("  ");
+        out.put_characters(sheet.names.name(rule));
+        out.put(" = ");
+        out.number(rule);
+        out.put(if is_last { " /* " } else { ", /* " });
+        out.show(RuleText(sheet.grammar, rule));
+        out.line(" */");
+    }
+    out.line("};");
+    put_tokens(out, sheet);
+    out.line("\n#endif");
 }

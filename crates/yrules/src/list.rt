@@ -1,35 +1,45 @@
 //! The list for people.
 
 use crate::sheet::Sheet;
+use std::alloc::Global;
 use std::io::{self, Write};
-use yexplain::text::{Bytes, RuleText};
-use yview::page::Page;
+use yexplain::text::RuleText;
+use youtput::Output;
 
 /// Writes the number, the name, the text and the line of a rule.
-fn put_rule<W: Write>(page: &mut Page<W>, sheet: Sheet<'_>, rule: usize) {
-    page.number_to(7, rule);
-    page.put("  ");
-    page.show(Bytes(sheet.names.name(rule)));
-    page.tab(34);
-    page.show(RuleText(sheet.grammar, rule));
+fn put_rule(out: &mut Output, sheet: Sheet<'_>, rule: usize) {
+    out.number_to(7, rule);
+    out.put("  ");
+    out.put_characters(sheet.names.name(rule));
+    out.tab(34);
+    out.show(RuleText(sheet.grammar, rule));
     if let Some(line) = sheet.lines.rule(rule) {
-        page.tab(74);
-        let _ = write!(page, "line {line}");
+        out.tab(74);
+        out.put("line ");
+        out.number(line);
     }
-    page.end();
+    out.line("");
 }
 
 /// Writes every rule, and the digest of the table.
-pub fn put_list<W: Write>(out: &mut W, path: &str, sheet: Sheet<'_>) -> io::Result<()> {
-    let mut page = Page::new(out, false);
-    page.put(path);
-    page.put(": ");
-    page.count(sheet.grammar.rules().saturating_sub(1), "rule", "rules");
-    let digest = sheet.digest;
-    let _ = write!(page, ", a table with the digest {digest:08x}");
-    page.end();
-    for rule in 1..sheet.grammar.rules() {
-        put_rule(&mut page, sheet, rule);
+pub fn put_list<W: Write>(
+    alloc: Global,
+    device: &mut W,
+    path: &str,
+    sheet: Sheet<'_>,
+) -> io::Result<()> {
+    let mut out = Output::new(alloc);
+    let rules = sheet.grammar.rules();
+    out.put(path);
+    out.put(": ");
+    out.number(rules.saturating_sub(1));
+    out.put(if rules == 2 { " rule" } else { " rules" });
+    out.put(", a table with the digest ");
+    out.hex(sheet.digest);
+    out.line("");
+    for rule in 1..rules {
+        put_rule(&mut out, sheet, rule);
+        out.hand_on(device);
     }
-    page.checked()
+    out.finish(device)
 }

@@ -5,6 +5,7 @@ use crate::stems::Stem;
 use std::alloc::Global;
 use yexplain::lines::is_inner;
 use yexplain::reads::Made;
+use youtput::Output;
 use ysymbols::Grammar;
 use ysymbols::names::{SymbolTable, intern, number_in};
 
@@ -18,22 +19,10 @@ pub struct Names {
 impl Names {
     /// The name of a rule; empty for rule 0, which has none.
     pub fn name(&self, rule: usize) -> &[u8] {
-        let place = rule.checked_sub(1);
-        match place.and_then(|place| self.names.get(place)) {
-            Some(name) => name,
-            None => b"",
+        if rule == 0 {
+            return b"";
         }
-    }
-
-    /// Adds the name of the next rule, unless a rule before it has the name: then its place is the
-    /// answer.
-    fn add(&mut self, alloc: Global, name: &[u8]) -> Made<Option<usize>> {
-        let place = number_in(&self.names, name);
-        if place < self.names.len() {
-            return Ok(Some(place));
-        }
-        intern(alloc, &mut self.names, name)?;
-        Ok(None)
+        self.names.get(rule.saturating_sub(1)).unwrap_or(b"")
     }
 }
 
@@ -48,28 +37,26 @@ struct Named<'a> {
 
 impl Named<'_> {
     /// Its name.
-    fn name(self, alloc: Global) -> Made<String> {
-        let Named { stem, action, .. } = self;
-        if action > 0 {
-            format!(in alloc; "RULE_{stem}_action_{action}")
-        } else {
-            format!(in alloc; "RULE_{stem}")
+    fn name(self, alloc: Global) -> Made<Vec<u8>> {
+        let mut out = Output::new(alloc);
+        out.put("RULE_");
+        self.stem.put(&mut out);
+        if self.action > 0 {
+            out.put("_action_");
+            out.number(self.action);
         }
+        out.into_bytes()
     }
 
     /// That a rule before it has its name. Where a comment gives the name to that one alone, it is
     /// the place.
-    fn taken(self, name: String, first: Named<'_>) -> Refusal {
-        match (self.stem.given, first.stem.given) {
-            (None, Some(given)) => Refusal {
-                at: given.at,
-                why: Why::Taken(name, self.rule),
-            },
-            _ => Refusal {
-                at: self.stem.at(),
-                why: Why::Taken(name, first.rule),
-            },
-        }
+    fn taken(self, name: Vec<u8>, first: Named<'_>) -> Trouble {
+        let (at, rule) = match (self.stem.given, first.stem.given) {
+            (None, Some(given)) => (given.at, self.rule),
+            _ => (self.stem.at(), first.rule),
+        };
+        let why = Why::Taken(name, rule);
+        Trouble::Refused(Refusal { at, why })
     }
 }
 
@@ -95,15 +82,15 @@ fn rules_of<'a>(alloc: Global, grammar: &Grammar, stems: &'a [Stem<'a>]) -> Made
 /// The names of the rules of a grammar whose alternatives are called so.
 pub fn names_of(alloc: Global, grammar: &Grammar, stems: &[Stem<'_>]) -> Result<Names, Trouble> {
     let rules = rules_of(alloc, grammar, stems)?;
-    let mut names = Names {
-        names: SymbolTable::new(alloc),
-    };
+    let mut names = SymbolTable::new(alloc);
     for named in &rules {
         let name = named.name(alloc)?;
-        let place = names.add(alloc, name.as_bytes())?;
-        if let Some(first) = place.and_then(|place| rules.get(place)) {
-            return Err(Trouble::Refused(named.taken(name, *first)));
+        let place = number_in(&names, &name);
+        if place < names.len() {
+            let first = rules.get(place).copied().unwrap_or(*named);
+            return Err(named.taken(name, first));
         }
+        intern(alloc, &mut names, &name)?;
     }
-    Ok(names)
+    Ok(Names { names })
 }

@@ -1,41 +1,35 @@
 //! The module in Python.
 
 use crate::sheet::Sheet;
-use std::io::{self, Write};
-use yexplain::text::{Bytes, RuleText};
+use yexplain::text::RuleText;
+use youtput::Output;
 
 /// The first line.
 const ABOUT: &str = "\"\"\"Names for the numbers of a table of yacc: ydebug rules made them.\"\"\"";
 
-/// Writes the rules.
-fn put_rules<W: Write>(out: &mut W, sheet: Sheet<'_>) -> io::Result<()> {
+/// Writes the module: the rules, and the tokens by the numbers that a lexer gives.
+pub fn put_module(out: &mut Output, sheet: Sheet<'_>) {
+    out.line(ABOUT);
+    out.line("\n# The digest of the table, for read_table.");
+    out.put("TABLE_DIGEST = 0x");
+    out.hex(sheet.digest);
+    out.line("\n");
     for rule in 1..sheet.grammar.rules() {
-        let name = Bytes(sheet.names.name(rule));
-        let text = RuleText(sheet.grammar, rule);
-        writeln!(out, "{name} = {rule}  # {text}")?;
+        out.put_characters(sheet.names.name(rule));
+        out.put(" = ");
+        out.number(rule);
+        out.put("  # ");
+        out.show(RuleText(sheet.grammar, rule));
+        out.line("");
     }
-    Ok(())
-}
-
-/// Writes the tokens, by the numbers that a lexer gives.
-fn put_tokens<W: Write>(out: &mut W, sheet: Sheet<'_>) -> io::Result<()> {
-    if sheet.tokens.is_empty() {
-        return Ok(());
+    if !sheet.tokens.is_empty() {
+        out.line("\n# The numbers that a lexer gives.");
     }
-    writeln!(out, "\n# The numbers that a lexer gives.")?;
     for token in sheet.tokens {
-        let (name, number) = (Bytes(token.name), token.number);
-        writeln!(out, "TOKEN_{name} = {number}")?;
+        out.put("TOKEN_");
+        out.put_characters(token.name);
+        out.put(" = ");
+        out.signed(i64::from(token.number));
+        out.line("");
     }
-    Ok(())
-}
-
-/// Writes the module.
-pub fn put_module<W: Write>(out: &mut W, sheet: Sheet<'_>) -> io::Result<()> {
-    let digest = sheet.digest;
-    writeln!(out, "{ABOUT}\n")?;
-    writeln!(out, "# The digest of the table, for read_table.")?;
-    writeln!(out, "TABLE_DIGEST = 0x{digest:08x}\n")?;
-    put_rules(out, sheet)?;
-    put_tokens(out, sheet)
 }

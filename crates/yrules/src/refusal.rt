@@ -1,10 +1,11 @@
 //! Why names are refused.
 
-use std::alloc::AllocError;
+use std::alloc::{AllocError, AllocFailed, Global};
 use std::io::{self, Write};
 use yexplain::lines::Lines;
 use yexplain::text::Numbered;
-use yfaults::shown::Place;
+use yfiles::diagnostic::Diagnostic;
+use yfiles::place::Place;
 
 /// What is wrong with a name.
 #[derive(Drop)]
@@ -14,7 +15,7 @@ pub enum Why {
     /// A comment gives a name to an alternative that another one has named.
     Second,
     /// The name is that of this rule too.
-    Taken(String, usize),
+    Taken(Vec<u8>, usize),
 }
 
 /// A name that is refused.
@@ -41,17 +42,25 @@ impl From<AllocError> for Trouble {
     }
 }
 
+impl<T: Drop> From<AllocFailed<T>> for Trouble {
+    fn from(_refused: AllocFailed<T>) -> Trouble {
+        Trouble::Memory
+    }
+}
+
 impl Why {
-    /// Writes what is wrong.
-    fn put<W: Write>(&self, out: &mut W, lines: &Lines) -> io::Result<()> {
+    /// Says what is wrong.
+    fn say(&self, one: &mut Diagnostic, lines: &Lines) -> io::Result<()> {
         match self {
-            Why::NoName => writeln!(out, "this is no name in C"),
-            Why::Second => writeln!(out, "a comment has named this rule already"),
+            Why::NoName => one.say("this is no name in C")?,
+            Why::Second => one.say("a comment has named this rule already")?,
             Why::Taken(name, rule) => {
                 let rule = Numbered(lines, *rule);
-                writeln!(out, "{name} is the name of {rule} too")
+                one.message.write_all(name)?;
+                write!(one.message, " is the name of {rule} too")?;
             }
         }
+        Ok(())
     }
 
     /// How to mend it.
@@ -65,20 +74,17 @@ impl Why {
 }
 
 impl Refusal {
-    /// Writes the line, what is wrong there, its text with a caret, and how to mend it.
-    pub fn put<W: Write>(
+    /// What is wrong, with the line of the place, and how to mend it.
+    pub fn diagnostic(
         &self,
-        out: &mut W,
+        alloc: Global,
         (path, source): (&str, &[u8]),
         lines: &Lines,
-    ) -> io::Result<()> {
+    ) -> io::Result<Diagnostic> {
         let at = self.at;
-        let place = Place { path, source, at };
-        let (line, _) = place.spot();
-        write!(out, "{path}:{line}: ")?;
-        self.why.put(out, lines)?;
-        place.put_text(out, true)?;
-        let mend = self.why.mend();
-        writeln!(out, "  {mend}")
+        let mut one = Diagnostic::at(alloc, Place { path, source, at }, true)?;
+        self.why.say(&mut one, lines)?;
+        one.note(alloc, self.why.mend())?;
+        Ok(one)
     }
 }

@@ -17,6 +17,7 @@ use yfaults::opening::Opened;
 use yfiles::same::refused_outputs;
 use yfiles::writing::put_asked;
 use yinput::grammars::{GrammarFile, GrammarText, open_with_text};
+use youtput::Output;
 use yview::digest::digest_of;
 
 /// What is asked for: the names of the rules of a grammar file, in a header, in a module, or where
@@ -40,23 +41,8 @@ fn named(alloc: Global, bytes: &[u8], opened: &Opened) -> Result<Names, Trouble>
     names_of(alloc, grammar, &stems)
 }
 
-/// Makes the texts, and then writes those that are asked for.
-fn put_files<F: Files + AllocGlobal, E: Write>(
-    rt: &F,
-    asked: Asked<'_>,
-    sheet: Sheet<'_>,
-    errors: &mut E,
-) -> io::Result<u8> {
-    let (mut header, mut module) = (Vec::new(rt.alloc()), Vec::new(rt.alloc()));
-    put_header(&mut header, sheet)?;
-    put_module(&mut module, sheet)?;
-    match put_asked(rt, asked.header, &header, errors)? {
-        0 => put_asked(rt, asked.python, &module, errors),
-        status => Ok(status),
-    }
-}
-
-/// Writes what is asked for of a grammar whose rules have names.
+/// Writes what is asked for of a grammar whose rules have names: both texts are made before any is
+/// written.
 fn put_named<F: Files + AllocGlobal, W: Write, E: Write>(
     rt: &F,
     asked: Asked<'_>,
@@ -65,39 +51,28 @@ fn put_named<F: Files + AllocGlobal, W: Write, E: Write>(
     out: &mut W,
     errors: &mut E,
 ) -> io::Result<u8> {
+    let alloc = rt.alloc();
     let Opened { tables, lines } = opened;
     let grammar = grammar_of(tables);
-    let tokens = tokens_of(rt.alloc(), grammar)?;
+    let tokens = tokens_of(alloc, grammar)?;
     let sheet = Sheet {
         grammar,
         lines,
         names,
         tokens: &tokens,
-        digest: digest_of(rt.alloc(), tables)?,
+        digest: digest_of(alloc, tables)?,
     };
     if asked.header.is_none() && asked.python.is_none() {
-        put_list(out, asked.grammar.path, sheet).map(|()| 0)
-    } else {
-        put_files(rt, asked, sheet, errors)
+        put_list(alloc, out, asked.grammar.path, sheet)?;
+        return Ok(0);
     }
-}
-
-/// Writes what is asked for of a file that is open, unless a name in it is refused.
-fn put_open<F: Files + AllocGlobal, W: Write, E: Write>(
-    rt: &F,
-    asked: Asked<'_>,
-    text: &GrammarText,
-    out: &mut W,
-    errors: &mut E,
-) -> io::Result<u8> {
-    let GrammarText { bytes, opened, .. } = text;
-    match named(rt.alloc(), bytes, opened) {
-        Ok(names) => put_named(rt, asked, opened, &names, out, errors),
-        Err(Trouble::Refused(refusal)) => {
-            refusal.put(errors, (asked.grammar.path, bytes), &opened.lines)?;
-            Ok(1)
-        }
-        Err(Trouble::Memory) => Err(io::Error::from(ErrorKind::OutOfMemory)),
+    let (mut header, mut module) = (Output::new(alloc), Output::new(alloc));
+    put_header(&mut header, sheet);
+    put_module(&mut module, sheet);
+    let (header, module) = (header.into_bytes()?, module.into_bytes()?);
+    match put_asked(rt, asked.header, &header, errors)? {
+        0 => put_asked(rt, asked.python, &module, errors),
+        status => Ok(status),
     }
 }
 
@@ -114,8 +89,19 @@ pub fn run_rules<F: Files + AllocGlobal, W: Write, E: Write>(
     if let Some(status) = refused_outputs(rt, &outputs, &[asked.grammar.path], errors)? {
         return Ok(status);
     }
-    match open_with_text(rt, asked.grammar, errors)? {
-        Ok(text) => put_open(rt, asked, &text, out, errors),
-        Err(status) => Ok(status),
+    let text = match open_with_text(rt, asked.grammar, errors)? {
+        Ok(text) => text,
+        Err(status) => return Ok(status),
+    };
+    let GrammarText { bytes, opened, .. } = &text;
+    match named(rt.alloc(), bytes, opened) {
+        Ok(names) => put_named(rt, asked, opened, &names, out, errors),
+        Err(Trouble::Refused(refusal)) => {
+            let file = (asked.grammar.path, bytes.as_slice());
+            let one = refusal.diagnostic(rt.alloc(), file, &opened.lines)?;
+            one.put(errors, "ydebug")?;
+            Ok(1)
+        }
+        Err(Trouble::Memory) => Err(io::Error::from(ErrorKind::OutOfMemory)),
     }
 }

@@ -26,7 +26,11 @@ pub struct Sheet<'a> {
 
 /// The tokens of a grammar that an input can have and that have a name in C.
 pub fn tokens_of(alloc: Global, grammar: &Grammar) -> Made<Vec<CToken<'_>>> {
-    (2..token_count(grammar))
-        .filter_map(|token| in_c(grammar, token))
-        .collect(alloc)
+    let mut tokens = Vec::new(alloc);
+    for token in 2..token_count(grammar) {
+        if let Some(named) = in_c(grammar, token) {
+            tokens.push(named)?;
+        }
+    }
+    Ok(tokens)
 }

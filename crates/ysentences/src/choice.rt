@@ -1,16 +1,15 @@
 //! The sentences that are kept: each uses something that no other one does.
 
 use crate::contexts::{Contexts, Place};
+use crate::elements::Kind;
 use crate::seek::{Goal, MOST_TOKENS, Seeker, Sought};
-use crate::trial::{Trier, Used};
-use std::alloc::Global;
+use crate::trial::Trier;
+use std::alloc::{AllocError, Global};
 use std::io;
-use ycounterexample::lists::Lists;
-use ycounterexample::others::Others;
-use ycover::elements::Kind;
 use yexplain::reads::{Made, action_of, default_of, grammar_of, is_reachable, left_of, set};
 use ylalr::ERROR;
 use yparse::Session;
+use ysearch::lists::Lists;
 use ysymbols::Sym;
 use ytables::{Action, Tables};
 
@@ -70,14 +69,6 @@ pub struct Chosen {
 }
 
 impl Chosen {
-    fn new(alloc: Global, count: usize) -> Made<Chosen> {
-        Ok(Chosen {
-            sentences: Vec::new(alloc),
-            used: vec![in alloc; false; count]?,
-            missing: vec![in alloc; Missing::Late; count]?,
-        })
-    }
-
     /// Whether a sentence uses an element.
     fn is_used(&self, element: usize) -> bool {
         self.used.get(element).copied().unwrap_or(true)
@@ -85,34 +76,33 @@ impl Chosen {
 
     /// Takes a sentence, where it uses something new.
     fn take(&mut self, tokens: Vec<Sym>, uses: Vec<usize>) -> Made<()> {
-        if uses.iter().all(|element| self.is_used(*element)) {
-            return Ok(());
-        }
+        let (mut uses, mut is_new) = (uses, false);
         for element in &uses {
+            is_new = is_new || !self.is_used(*element);
             set(&mut self.used, *element, true);
         }
-        let mut uses = uses;
-        uses.sort()?;
-        self.sentences.push(Sentence {
-            tokens,
-            uses,
-            kept: true,
-        })?;
-        Ok(())
-    }
-
-    /// How many sentences use each element.
-    fn counts(&self, alloc: Global) -> Made<Vec<usize>> {
-        let mut counts = vec![in alloc; 0usize; self.used.len()]?;
-        for sentence in &self.sentences {
-            count_in(&mut counts, &sentence.uses);
+        if is_new {
+            uses.sort()?;
+            self.sentences.push(Sentence {
+                tokens,
+                uses,
+                kept: true,
+            })?;
         }
-        Ok(counts)
+        Ok(())
     }
 
     /// Drops each sentence whose elements are all used by others, the longest first.
     fn thin(&mut self, alloc: Global) -> Made<()> {
-        let mut counts = self.counts(alloc)?;
+        // how many sentences use each element
+        let mut counts = vec![in alloc; 0usize; self.used.len()]?;
+        for sentence in &self.sentences {
+            for element in &sentence.uses {
+                if let Some(count) = counts.get_mut(*element) {
+                    *count = count.saturating_add(1);
+                }
+            }
+        }
         let order = self.order(alloc)?;
         for place in order.iter().rev() {
             if let Some(sentence) = self.sentences.get_mut(*place) {
@@ -133,57 +123,69 @@ impl Chosen {
     }
 }
 
-/// Counts each of some elements once more.
-fn count_in(counts: &mut [usize], elements: &[usize]) {
-    for element in elements {
-        if let Some(count) = counts.get_mut(*element) {
-            *count = count.saturating_add(1);
-        }
-    }
-}
-
 /// Whether all of some elements are used by more than one sentence; then each counts once less.
 fn is_spared(counts: &mut [usize], elements: &[usize]) -> bool {
-    let is_spared = elements
-        .iter()
-        .all(|element| counts.get(*element).copied().unwrap_or(0) > 1);
-    if is_spared {
-        for element in elements {
-            if let Some(count) = counts.get_mut(*element) {
-                *count = count.saturating_sub(1);
-            }
+    for element in elements {
+        if counts.get(*element).copied().unwrap_or(0) <= 1 {
+            return false;
         }
     }
-    is_spared
+    for element in elements {
+        if let Some(count) = counts.get_mut(*element) {
+            *count = count.saturating_sub(1);
+        }
+    }
+    true
+}
+
+/// The rule that a filled cell reduces by, where it does.
+fn rule_in(tables: &Tables, goal: Goal) -> Option<usize> {
+    match goal.token {
+        None => default_of(tables, goal.state),
+        Some(token) => match action_of(tables, goal.state, token) {
+            Action::Reduce(rule) => Some(rule),
+            _ => None,
+        },
+    }
 }
 
 impl<'a> Chooser<'a> {
+    /// Nothing is chosen yet.
     fn new(alloc: Global, session: &'a mut Session, kind: Kind) -> Made<Chooser<'a>> {
         let seeker = Seeker::new(alloc, session.tables())?;
-        let rules = grammar_of(session.tables()).rules();
-        let trier = Trier::new(alloc, session, kind)?;
-        let chosen = Chosen::new(alloc, trier.count())?;
+        let trier = Trier::new(alloc, session)?;
+        let count = trier.uses.rounds(kind).len();
+        let rules = trier.uses.rounds(Kind::Rules).len();
         Ok(Chooser {
             alloc,
             kind,
             trier,
             seeker,
-            chosen,
+            chosen: Chosen {
+                sentences: Vec::new(alloc),
+                used: vec![in alloc; false; count]?,
+                missing: vec![in alloc; Missing::Late; count]?,
+            },
             rules: vec![in alloc; false; rules]?,
         })
     }
 
     /// Tries a sentence, and takes it where it is accepted and uses something new.
     fn offer(&mut self, tokens: Vec<Sym>) -> io::Result<()> {
-        let before = self.trier.steps();
-        let used = self.trier.uses(&tokens)?;
-        let steps = self.trier.steps().saturating_sub(before);
-        self.seeker.finder.spend(steps.saturating_add(tokens.len()));
-        let Some(Used { elements, rules }) = used else {
+        let is_accepted = self.trier.accepts(&tokens)?;
+        let steps = self.trier.steps.saturating_add(tokens.len());
+        self.seeker.finder.spend(steps);
+        if !is_accepted {
             return Ok(());
-        };
-        for rule in &rules {
-            set(&mut self.rules, *rule, true);
+        }
+        let mut elements = Vec::new(self.alloc);
+        for (kind, number) in &self.trier.uses.used {
+            if *kind == Kind::Rules {
+                set(&mut self.rules, *number, true);
+            }
+            if *kind == self.kind {
+                elements.push(*number).map_err(AllocError::from)?;
+            }
         }
         self.chosen.take(tokens, elements)?;
         Ok(())
@@ -194,8 +196,12 @@ impl<'a> Chooser<'a> {
         let (contexts, order) = self.contexts()?;
         for place in &order {
             let is_done = self.rules.get(place.rule).copied().unwrap_or(true);
-            if !is_done && self.seeker.finder.has_steps() {
-                self.offer_rule(&contexts, *place)?;
+            if is_done || !self.seeker.finder.has_steps() {
+                continue;
+            }
+            match self.rule_sentence(&contexts, *place)? {
+                Sought::Sentence(tokens) => self.offer(tokens)?,
+                _ => self.miss(Kind::Rules, place.rule, Missing::Long),
             }
         }
         Ok(())
@@ -203,21 +209,11 @@ impl<'a> Chooser<'a> {
 
     /// The shortest ways to rules, and the rules, the one with the longest sentence first.
     fn contexts(&self) -> Made<(Contexts, Vec<Place>)> {
-        let (grammar, finder) = (grammar_of(self.trier.session.tables()), &self.seeker.finder);
-        let contexts = Contexts::new(self.alloc, grammar, finder)?;
-        let order = contexts.order(self.alloc, grammar, finder)?;
+        let (alloc, shortest) = (self.alloc, &self.seeker.finder.shortest);
+        let grammar = grammar_of(self.trier.session.tables());
+        let contexts = Contexts::new(alloc, grammar, shortest)?;
+        let order = contexts.order(alloc, grammar, shortest)?;
         Ok((contexts, order))
-    }
-
-    /// Offers the shortest sentence of a rule.
-    fn offer_rule(&mut self, contexts: &Contexts, place: Place) -> io::Result<()> {
-        match self.rule_sentence(contexts, place)? {
-            Sought::Sentence(tokens) => self.offer(tokens),
-            _ => {
-                self.miss(Kind::Rules, place.rule, Missing::Long);
-                Ok(())
-            }
-        }
     }
 
     /// The shortest sentence of a rule.
@@ -243,11 +239,11 @@ impl<'a> Chooser<'a> {
         if self.kind == Kind::Rules {
             return self.seek_rules();
         }
-        for element in 0..self.trier.count() {
+        for element in 0..self.chosen.used.len() {
             let goal = match self.trier.cells.at(element) {
                 Some(cell) if self.kind == Kind::Cells => Goal {
                     state: cell.state,
-                    token: cell.token(),
+                    token: cell.token,
                 },
                 _ => Goal {
                     state: element,
@@ -259,21 +255,20 @@ impl<'a> Chooser<'a> {
         Ok(())
     }
 
-    /// Seeks sentences for the rules that none uses yet, by cells that reduce by them.
+    /// Seeks sentences for the rules that none uses yet, by cells that reduce by them; and notes
+    /// why a rule isn't used that can't be.
     fn seek_rules(&mut self) -> io::Result<()> {
         let (goals, marks) = (self.goals_of_rules()?, self.at_error()?);
-        for rule in 1..self.trier.count() {
+        for rule in 1..self.chosen.used.len() {
+            for goal in goals.of(rule) {
+                self.seek(*goal, rule)?;
+            }
             let is_marked = marks.get(rule).copied().unwrap_or(false);
-            self.seek_rule(rule, goals.of(rule))?;
-            self.judge(rule, goals.of(rule).is_empty() && !is_marked);
-        }
-        Ok(())
-    }
-
-    /// Seeks a sentence that comes to one of these cells, which reduce by a rule.
-    fn seek_rule(&mut self, rule: usize, goals: &[Goal]) -> io::Result<()> {
-        for goal in goals {
-            self.seek(*goal, rule)?;
+            if !self.is_live(rule) {
+                self.miss(Kind::Rules, rule, Missing::Unreachable);
+            } else if goals.of(rule).is_empty() && !is_marked {
+                self.miss(Kind::Rules, rule, Missing::Lost);
+            }
         }
         Ok(())
     }
@@ -281,7 +276,7 @@ impl<'a> Chooser<'a> {
     /// The rules that a cell reduces by at `error`, which no parse looks up.
     fn at_error(&self) -> Made<Vec<bool>> {
         let (alloc, tables) = (self.alloc, self.trier.session.tables());
-        let mut marks = vec![in alloc; false; self.trier.count()]?;
+        let mut marks = vec![in alloc; false; self.chosen.used.len()]?;
         for state in 0..tables.automaton().states() {
             if let Action::Reduce(rule) = action_of(tables, state, ERROR) {
                 set(&mut marks, rule, true);
@@ -299,30 +294,21 @@ impl<'a> Chooser<'a> {
         }
     }
 
-    /// Notes why a rule isn't used that can't be.
-    fn judge(&mut self, rule: usize, is_lost: bool) {
-        if !self.is_live(rule) {
-            self.miss(Kind::Rules, rule, Missing::Unreachable);
-        } else if is_lost {
-            self.miss(Kind::Rules, rule, Missing::Lost);
-        }
-    }
-
     /// The first cells that reduce by each rule that no sentence uses.
     fn goals_of_rules(&self) -> Made<Lists<Goal>> {
-        let mut goals = Lists::new(self.alloc, self.trier.count())?;
-        if self.chosen.used.iter().skip(1).all(|used| *used) {
-            return Ok(goals);
-        }
+        let mut goals = Lists::new(self.alloc, self.chosen.used.len())?;
         let tables = self.trier.session.tables();
         for number in 0..self.trier.cells.count() {
             let Some(cell) = self.trier.cells.at(number) else {
                 break;
             };
-            let (state, token) = (cell.state, cell.token());
-            match rule_in(tables, state, token) {
+            let goal = Goal {
+                state: cell.state,
+                token: cell.token,
+            };
+            match rule_in(tables, goal) {
                 Some(rule) if !self.chosen.is_used(rule) && goals.of(rule).len() < MOST_CELLS => {
-                    goals.push(rule, Goal { state, token })?;
+                    goals.push(rule, goal)?;
                 }
                 _ => {}
             }
@@ -357,35 +343,16 @@ impl<'a> Chooser<'a> {
         self.miss(self.kind, element, Missing::Astray);
         let mut others = self.seeker.others(&self.trier, goal)?;
         for _ in 0..MOST_OTHERS {
-            if self.chosen.is_used(element) || !self.try_next(&mut others, goal)? {
+            if self.chosen.is_used(element) || !self.seeker.finder.has_steps() {
                 break;
+            }
+            match self.seeker.next(&mut self.trier, &mut others, goal)? {
+                Some(Sought::Sentence(tokens)) => self.offer(tokens)?,
+                Some(_) => {}
+                None => break,
             }
         }
         Ok(())
-    }
-
-    /// Tries the next list, and says whether there was one.
-    fn try_next(&mut self, others: &mut Others, goal: Goal) -> io::Result<bool> {
-        if !self.seeker.finder.has_steps() {
-            return Ok(false);
-        }
-        match self.seeker.next(&mut self.trier, others, goal)? {
-            Some(Sought::Sentence(tokens)) => {
-                self.offer(tokens)?;
-                Ok(true)
-            }
-            Some(_) => Ok(true),
-            None => Ok(false),
-        }
-    }
-}
-
-/// The rule that a filled cell reduces by, where it does.
-fn rule_in(tables: &Tables, state: usize, token: Option<Sym>) -> Option<usize> {
-    match token.map(|token| action_of(tables, state, token)) {
-        Some(Action::Reduce(rule)) => Some(rule),
-        Some(_) => None,
-        None => default_of(tables, state),
     }
 }
 

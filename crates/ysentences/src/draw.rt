@@ -1,12 +1,9 @@
-//! Sentences that are drawn at random.
+//! Sentences that are drawn at random, the same ones for the same seed.
 
-use crate::numbers::Numbers;
 use crate::seek::MOST_TOKENS;
 use std::alloc::Global;
-use ycounterexample::costs::push_back;
-use ycounterexample::search::Finder;
 use yexplain::reads::{Made, body_of};
-use ylalr::Automaton;
+use ysearch::shortest::{Shortest, push_back};
 use ysymbols::{Grammar, Sym};
 
 /// The most symbols that are taken for one sentence, beside 20 for each of its tokens.
@@ -16,10 +13,42 @@ const MOST_TAKEN: usize = 1_000;
 /// than half of its tokens.
 const GROWING: usize = 4;
 
+/// What the number of 64 bits is multiplied by, and what is then added, modulo 2 to the 64.
+const FACTOR: u64 = 6_364_136_223_846_793_005;
+
+const STEP: u64 = 1_442_695_040_888_963_407;
+
+/// The lower half and a bit of it, which aren't drawn: 2 to the 33.
+const LOW: u64 = 8_589_934_592;
+
+/// Numbers that are drawn one after the other.
+#[derive(Clone, Copy, Drop)]
+pub struct Numbers {
+    now: u64,
+}
+
+impl Numbers {
+    /// Those of a seed.
+    pub fn new(seed: u64) -> Numbers {
+        Numbers { now: seed }
+    }
+
+    /// The next number, of 31 bits, modulo a count; 0 where that is 0.
+    pub fn below(&mut self, count: usize) -> usize {
+        self.now = self.now.wrapping_mul(FACTOR).wrapping_add(STEP);
+        match (self.now / LOW).checked_rem(count as u64) {
+            Some(number) => number as usize,
+            None => 0,
+        }
+    }
+}
+
 /// A sentence that is being drawn.
 #[derive(Drop)]
-struct Drawing {
+struct Drawing<'a> {
     alloc: Global,
+    grammar: &'a Grammar,
+    shortest: &'a Shortest,
     tokens: Vec<Sym>,
     /// The symbols that are still to come, the next one last.
     open: Vec<Sym>,
@@ -29,90 +58,59 @@ struct Drawing {
     most: u64,
 }
 
-impl Drawing {
-    /// How many tokens there are at least once a rule is taken for its left side.
-    fn least_with(&self, grammar: &Grammar, finder: &Finder, left: Sym, rule: usize) -> u64 {
-        let body = finder.length(body_of(grammar, rule));
-        self.least
-            .saturating_sub(finder.length(&[left]))
-            .saturating_add(body)
-    }
-
-    /// The rules of a left side that may be taken; with `longer`, those that make the sentence
-    /// longer.
-    fn rules(
-        &self,
-        grammar: &Grammar,
-        finder: &Finder,
-        left: Sym,
-        longer: bool,
-    ) -> Made<Vec<usize>> {
-        let mut rules = Vec::new(self.alloc);
-        for rule in finder.rules(left) {
-            let least = self.least_with(grammar, finder, left, *rule);
+impl Drawing<'_> {
+    /// The rules of a left side that may be taken, each with how many tokens there are then at
+    /// least; with `longer`, those that make the sentence longer.
+    fn rules(&self, left: Sym, longer: bool) -> Made<Vec<(usize, u64)>> {
+        let (shortest, mut rules) = (self.shortest, Vec::new(self.alloc));
+        let beside = self.least.saturating_sub(shortest.length(left));
+        for rule in shortest.rules(left) {
+            let body = shortest.length_of(body_of(self.grammar, *rule));
+            let least = beside.saturating_add(body);
             if least <= self.most && (least > self.least || !longer) {
-                rules.push(*rule)?;
+                rules.push((*rule, least))?;
             }
         }
         Ok(rules)
     }
 
     /// Draws a rule for a left side, where one may be taken.
-    fn rule(
-        &self,
-        grammar: &Grammar,
-        finder: &Finder,
-        numbers: &mut Numbers,
-        left: Sym,
-    ) -> Made<Option<usize>> {
+    fn rule(&self, numbers: &mut Numbers, left: Sym) -> Made<Option<(usize, u64)>> {
         let is_short = self.least.saturating_mul(2) < self.most;
         if is_short && numbers.below(GROWING) > 0 {
-            let rules = self.rules(grammar, finder, left, true)?;
+            let rules = self.rules(left, true)?;
             if !rules.is_empty() {
                 return Ok(rules.get(numbers.below(rules.len())).copied());
             }
         }
-        let rules = self.rules(grammar, finder, left, false)?;
+        let rules = self.rules(left, false)?;
         Ok(rules.get(numbers.below(rules.len())).copied())
     }
 
-    /// Takes the next symbol, and says whether there was one.
-    fn take(&mut self, grammar: &Grammar, finder: &Finder, numbers: &mut Numbers) -> Made<bool> {
-        let Some(symbol) = self.open.pop() else {
-            return Ok(false);
-        };
-        if grammar.is_token(symbol) {
-            self.tokens.push(symbol)?;
-            return Ok(true);
-        }
-        match self.rule(grammar, finder, numbers, symbol)? {
-            Some(rule) => {
-                self.least = self.least_with(grammar, finder, symbol, rule);
-                push_back(&mut self.open, body_of(grammar, rule))?;
-                Ok(true)
-            }
-            None => {
-                self.open.push(symbol)?;
-                Ok(false)
-            }
-        }
-    }
-
-    /// Takes symbols as long as there are some and a rule may be taken.
-    fn take_all(&mut self, grammar: &Grammar, finder: &Finder, numbers: &mut Numbers) -> Made<()> {
+    /// Takes symbols as long as there are some and a rule may be taken, and then the shortest
+    /// sentence of those that are still to come, and says whether all were taken.
+    fn take_all(&mut self, numbers: &mut Numbers) -> Made<bool> {
         let most = usize::try_from(self.most).unwrap_or(0);
         for _ in 0..most.saturating_mul(20).saturating_add(MOST_TAKEN) {
-            if !self.take(grammar, finder, numbers)? {
+            let Some(symbol) = self.open.pop() else {
                 break;
+            };
+            if self.grammar.is_token(symbol) {
+                self.tokens.push(symbol)?;
+                continue;
             }
+            let Some((rule, least)) = self.rule(numbers, symbol)? else {
+                self.open.push(symbol)?;
+                break;
+            };
+            self.least = least;
+            push_back(&mut self.open, body_of(self.grammar, rule))?;
         }
-        Ok(())
-    }
-
-    /// Adds the shortest sentence of the symbols that are still to come.
-    fn end(&mut self, finder: &Finder, automaton: &Automaton) -> Made<bool> {
         self.open.reverse();
-        match finder.sentence(automaton, &self.open)? {
+        match self
+            .shortest
+            .sentence(self.alloc, self.grammar, &self.open)?
+        {
             Some(rest) => {
                 self.tokens.extend_from_slice(&rest)?;
                 Ok(true)
@@ -126,27 +124,26 @@ impl Drawing {
 /// where that has `error`, or too many tokens.
 pub fn draw(
     alloc: Global,
-    finder: &Finder,
-    automaton: &Automaton,
+    grammar: &Grammar,
+    shortest: &Shortest,
     numbers: &mut Numbers,
     most: u64,
 ) -> Made<Option<Vec<Sym>>> {
-    let grammar = automaton.grammar();
     let form = body_of(grammar, 0).get(..1).unwrap_or(&[]);
-    let least = finder.length(form);
+    let least = shortest.length_of(form);
     if least > MOST_TOKENS {
         return Ok(None);
     }
     let mut drawing = Drawing {
         alloc,
+        grammar,
+        shortest,
         tokens: Vec::new(alloc),
-        open: Vec::new(alloc),
+        open: Vec::from_slice(alloc, form)?,
         least,
         most,
     };
-    push_back(&mut drawing.open, form)?;
-    drawing.take_all(grammar, finder, numbers)?;
-    let is_whole = drawing.end(finder, automaton)?;
+    let is_whole = drawing.take_all(numbers)?;
     let Drawing { tokens, .. } = drawing;
     if is_whole { Ok(Some(tokens)) } else { Ok(None) }
 }

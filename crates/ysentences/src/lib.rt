@@ -1,19 +1,26 @@
-//! Sentences of a grammar: few and short ones that use every rule, state or filled cell, lists of
-//! tokens that are near to them, and some that are drawn at random.
+//! What inputs use of tables: the rules that are reduced, the states that come on top, and the
+//! filled cells by which steps go. Few and short sentences that use every rule, state or filled
+//! cell, lists of tokens that are near to them, and some that are drawn at random.
 //!
-//! `contexts` has the shortest sentence with each rule, `completion` the shortest end of a sentence
-//! over a stack, and `seek` the sentences that come to a cell. `trial` tries each in a session and
-//! sees what its steps use, and `choice` keeps those that use something new. `near` changes
-//! sentences, `draw` draws them by `numbers`, `sheet` writes them, and `run` is the command.
+//! `cells` numbers the filled cells, `uses` makes steps and keeps what they use, and `elements`
+//! writes rules, states and cells for people. `walk` goes through whole parses, and writes what
+//! they used and what none did.
+//!
+//! `contexts` has the shortest sentence with each rule, and `seek` the sentences that come to a
+//! cell. `trial` tries each in a session and sees what its steps use, and `choice` keeps those that
+//! use something new. `near` changes sentences, `draw` draws them, `sheet` writes them, and `run`
+//! is the command.
 #![tactic(auto)]
 
+mod cells;
 mod choice;
-mod completion;
 mod contexts;
 mod draw;
+pub mod elements;
 mod near;
-mod numbers;
 pub mod run;
 mod seek;
 mod sheet;
 mod trial;
+mod uses;
+pub mod walk;

@@ -45,18 +45,16 @@ fn place_in(count: usize, part: usize) -> Option<usize> {
     Some(part.saturating_mul(last).checked_div(steps).unwrap_or(0))
 }
 
-/// Whether an input can have a token; with a writer, a text.
-fn is_given(writer: Option<&Writer>, token: Sym) -> bool {
-    writer.map_or(true, |writer| writer.lexer().gives(token))
-}
-
 impl Near {
     /// What changes sentences of a grammar; with a writer, by tokens that a text can have.
     pub fn new(alloc: Global, grammar: &Grammar, writer: Option<&Writer>) -> Made<Near> {
         let (mut inputs, marks) = (Vec::new(alloc), used_in(alloc, grammar)?);
         for (symbol, used) in marks.iter().enumerate() {
-            let is_input = *used && grammar.is_token(symbol) && symbol > ERROR;
-            if is_input && is_given(writer, symbol) {
+            let is_given = match writer {
+                Some(writer) => writer.lexer().gives(symbol),
+                None => true,
+            };
+            if *used && grammar.is_token(symbol) && symbol > ERROR && is_given {
                 inputs.push(symbol)?;
             }
         }
@@ -88,42 +86,30 @@ impl Near {
         None
     }
 
-    /// The changes of a sentence.
+    /// The changes of a sentence: at some places the token is left out; at some it becomes another;
+    /// at some one is put in.
     pub fn changes(&mut self, tokens: &[Sym]) -> Made<Vec<Change>> {
-        let mut changes = Vec::new(self.alloc);
-        let count = tokens.len();
+        let (mut changes, count) = (Vec::new(self.alloc), tokens.len());
         for part in 0..MOST_PLACES {
             if let Some(place) = place_in(count, part) {
                 changes.push(Change::LeaveOut(place))?;
             }
         }
-        self.push_replaced(&mut changes, tokens)?;
-        self.push_put_in(&mut changes, count.saturating_add(1))?;
-        Ok(changes)
-    }
-
-    /// Adds the changes in which a token becomes another.
-    fn push_replaced(&mut self, changes: &mut Vec<Change>, tokens: &[Sym]) -> Made<()> {
         for part in 0..MOST_PLACES {
-            if let Some(place) = place_in(tokens.len(), part) {
+            if let Some(place) = place_in(count, part) {
                 if let Some(other) = self.other(tokens.get(place).copied()) {
                     changes.push(Change::Replace(place, other))?;
                 }
             }
         }
-        Ok(())
-    }
-
-    /// Adds the changes in which a token is put in at one of so many places.
-    fn push_put_in(&mut self, changes: &mut Vec<Change>, count: usize) -> Made<()> {
         for part in 0..MOST_PLACES {
-            if let Some(place) = place_in(count, part) {
+            if let Some(place) = place_in(count.saturating_add(1), part) {
                 if let Some(other) = self.other(None) {
                     changes.push(Change::PutIn(place, other))?;
                 }
             }
         }
-        Ok(())
+        Ok(changes)
     }
 }
 

@@ -1,25 +1,23 @@
 //! `ydebug sentences`.
 
+use crate::cells::Cells;
 use crate::choice::{Chosen, Missing, choose};
-use crate::draw::draw;
+use crate::draw::{Numbers, draw};
+use crate::elements::{Elements, Kind};
 use crate::near::Near;
-use crate::numbers::Numbers;
 use crate::seek::MOST_TOKENS;
 use crate::sheet::Sheet;
-use std::alloc::Global;
+use std::alloc::{AllocError, Global};
 use std::io::{self, Write};
 use std::rt::Files;
-use ycounterexample::search::Finder;
-use ycounterexample::trial::empty_session;
-use ycover::cells::Cells;
-use ycover::elements::{Elements, Kind};
-use yexplain::reads::{Made, grammar_of, set};
+use yexplain::reads::{grammar_of, set};
 use yfaults::opening::Opened;
 use yfiles::steady::Steady;
 use yinput::language::{Language, LanguageFiles};
 use ylex::writer::Writer;
 use ylists::saving::{Folder, are_refused, put_failed};
-use ytables::Tables;
+use ysearch::shortest::Shortest;
+use ysearch::trial::empty_session;
 
 /// Sentences that are drawn.
 #[derive(Clone, Copy)]
@@ -84,20 +82,6 @@ impl Asked<'_> {
                 || are_refused(rt, folder, (NEAR, end), &inputs, errors)?,
         )
     }
-
-    /// What changes sentences, where that is wanted.
-    fn near_in(
-        self,
-        alloc: Global,
-        tables: &Tables,
-        writer: Option<&Writer>,
-    ) -> Made<Option<Near>> {
-        if self.near {
-            Near::new(alloc, grammar_of(tables), writer).map(Some)
-        } else {
-            Ok(None)
-        }
-    }
 }
 
 /// What the names of the files of lists that are near to sentences begin with.
@@ -113,7 +97,8 @@ fn folder_of<'a, F>(rt: &'a F, asked: Asked<'a>, front: &'a str) -> Folder<'a, F
     }
 }
 
-/// Writes the sentences that are kept, the shortest first, and says how many these are.
+/// Writes the sentences that are kept, the shortest first, each with the elements that no sentence
+/// before it uses, and says how many these are.
 fn put_kept<W: Write, F: Files + AllocGlobal + Clone + Drop>(
     sheet: &mut Sheet<'_, W, F>,
     chosen: &Chosen,
@@ -121,50 +106,23 @@ fn put_kept<W: Write, F: Files + AllocGlobal + Clone + Drop>(
 ) -> io::Result<usize> {
     let (alloc, mut number): (Global, usize) = (sheet.alloc, 0);
     let mut seen = vec![in alloc; false; chosen.used.len()]?;
-    let order = chosen.order(alloc)?;
-    for place in &order {
-        if let Some(sentence) = chosen.sentences.get(*place) {
-            if sentence.kept {
-                number = number.saturating_add(1);
-                let new = new_in(alloc, &mut seen, &sentence.uses)?;
-                sheet.put_chosen(kind, number, &sentence.tokens, &new)?;
+    for place in &chosen.order(alloc)? {
+        let Some(sentence) = chosen.sentences.get(*place) else {
+            continue;
+        };
+        if sentence.kept {
+            number = number.saturating_add(1);
+            let mut new = Vec::new(alloc);
+            for element in &sentence.uses {
+                if !seen.get(*element).copied().unwrap_or(true) {
+                    set(&mut seen, *element, true);
+                    new.push(*element).map_err(AllocError::from)?;
+                }
             }
+            sheet.put_chosen(kind, number, &sentence.tokens, &new)?;
         }
     }
     Ok(number)
-}
-
-/// The elements that aren't marked yet, which become so.
-fn new_in(alloc: Global, seen: &mut [bool], elements: &[usize]) -> Made<Vec<usize>> {
-    let mut new = Vec::new(alloc);
-    for element in elements {
-        if !seen.get(*element).copied().unwrap_or(true) {
-            set(seen, *element, true);
-            new.push(*element)?;
-        }
-    }
-    Ok(new)
-}
-
-/// Writes the elements that no sentence uses, and says how many these are.
-fn put_unused<W: Write, F: Files + AllocGlobal + Clone + Drop>(
-    sheet: &mut Sheet<'_, W, F>,
-    chosen: &Chosen,
-    kind: Kind,
-) -> io::Result<usize> {
-    let mut count: usize = 0;
-    for (element, used) in chosen.used.iter().enumerate().skip(kind.first()) {
-        if !*used {
-            let missing = chosen
-                .missing
-                .get(element)
-                .copied()
-                .unwrap_or(Missing::Late);
-            sheet.put_unused(kind, element, missing)?;
-            count = count.saturating_add(1);
-        }
-    }
-    Ok(count)
 }
 
 /// Writes the sentences that were chosen and what none uses, and says whether all is used.
@@ -174,7 +132,14 @@ fn put_chosen<W: Write, F: Files + AllocGlobal + Clone + Drop>(
     kind: Kind,
 ) -> io::Result<bool> {
     let sentences = put_kept(sheet, chosen, kind)?;
-    let unused = put_unused(sheet, chosen, kind)?;
+    let mut unused: usize = 0;
+    for (element, used) in chosen.used.iter().enumerate().skip(kind.first()) {
+        if !*used {
+            let missing = chosen.missing.get(element).copied();
+            sheet.put_unused(kind, element, missing.unwrap_or(Missing::Late))?;
+            unused = unused.saturating_add(1);
+        }
+    }
     let all = chosen.used.len().saturating_sub(kind.first());
     let (words, verb) = if sentences == 1 {
         ("sentence", "uses")
@@ -191,51 +156,33 @@ fn put_chosen<W: Write, F: Files + AllocGlobal + Clone + Drop>(
     Ok(unused == 0)
 }
 
-/// Draws sentences and writes them, and says how many of them are accepted; `None` where there are
-/// none.
-fn put_each_drawn<W: Write, F: Files + AllocGlobal + Clone + Drop>(
-    sheet: &mut Sheet<'_, W, F>,
-    drawn: Drawn,
-) -> io::Result<Option<usize>> {
-    let (alloc, elements) = (sheet.alloc, sheet.elements);
-    let automaton = elements.tables.automaton();
-    let finder = Finder::new(alloc, automaton)?;
-    let mut numbers = Numbers::new(drawn.seed);
-    let mut accepted: usize = 0;
-    for index in 0..drawn.count {
-        let Some(tokens) = draw(alloc, &finder, automaton, &mut numbers, drawn.length)? else {
-            return Ok(None);
-        };
-        if sheet.put_drawn(index.saturating_add(1), &tokens)? {
-            accepted = accepted.saturating_add(1);
-        }
-    }
-    Ok(Some(accepted))
-}
-
 /// Writes sentences that are drawn, and says whether all are accepted.
 fn put_drawn<W: Write, F: Files + AllocGlobal + Clone + Drop>(
     sheet: &mut Sheet<'_, W, F>,
     drawn: Drawn,
 ) -> io::Result<bool> {
-    let count = drawn.count;
-    match put_each_drawn(sheet, drawn)? {
-        Some(accepted) => {
-            write!(
-                sheet.out,
-                "# {accepted} of {count} random sentences accepted"
-            )?;
-            sheet.put_end()?;
-            Ok(accepted == count)
-        }
-        None => {
+    let (alloc, elements, count) = (sheet.alloc, sheet.elements, drawn.count);
+    let grammar = grammar_of(elements.tables);
+    let shortest = Shortest::new(alloc, grammar)?;
+    let (mut numbers, mut accepted) = (Numbers::new(drawn.seed), 0usize);
+    for index in 0..count {
+        let Some(tokens) = draw(alloc, grammar, &shortest, &mut numbers, drawn.length)? else {
             writeln!(
                 sheet.out,
                 "# no sentence can be drawn: the shortest one has error, or too many tokens"
             )?;
-            Ok(false)
+            return Ok(false);
+        };
+        if sheet.put_drawn(index.saturating_add(1), &tokens)? {
+            accepted = accepted.saturating_add(1);
         }
     }
+    write!(
+        sheet.out,
+        "# {accepted} of {count} random sentences accepted"
+    )?;
+    sheet.put_end()?;
+    Ok(accepted == count)
 }
 
 /// Writes what is asked for, and gives the exit status.
@@ -247,6 +194,11 @@ fn put_sheet<'a, W: Write, E: Write, F: Files + AllocGlobal + Clone + Drop>(
     errors: &mut E,
     (chosen, writer): (Option<&Chosen>, Option<&'a Writer>),
 ) -> io::Result<u8> {
+    let near = if asked.near {
+        Some(Near::new(rt.alloc(), grammar_of(elements.tables), writer)?)
+    } else {
+        None
+    };
     let mut sheet = Sheet {
         alloc: rt.alloc(),
         out,
@@ -254,7 +206,7 @@ fn put_sheet<'a, W: Write, E: Write, F: Files + AllocGlobal + Clone + Drop>(
         folder: folder_of(rt, asked, asked.front()),
         near_folder: folder_of(rt, asked, NEAR),
         writer,
-        near: asked.near_in(rt.alloc(), elements.tables, writer)?,
+        near,
         changed: 0,
         accepted: 0,
     };

@@ -1,6 +1,5 @@
 //! Sentences that come to a state with a token ahead.
 
-use crate::completion::Completer;
 use crate::trial::Trier;
 use std::alloc::{AllocError, Global};
 use std::io;
@@ -8,6 +7,7 @@ use ycounterexample::others::Others;
 use ycounterexample::search::{Finder, Found, Target};
 use yexplain::reads::{Made, action_of, goto_of};
 use ylalr::{Automaton, END};
+use ysearch::completion::{End, Ties, end_over, rest_of};
 use ysymbols::Sym;
 use ytables::{Action, Tables};
 
@@ -45,7 +45,6 @@ pub struct Seeker {
     alloc: Global,
     /// What searches for the ways to a state.
     pub finder: Finder,
-    completer: Completer,
 }
 
 impl Goal {
@@ -86,20 +85,19 @@ fn states_over(alloc: Global, automaton: &Automaton, way: &[Sym]) -> Made<Vec<us
 impl Seeker {
     /// What seeks sentences by these tables.
     pub fn new(alloc: Global, tables: &Tables) -> Made<Seeker> {
-        let automaton = tables.automaton();
         Ok(Seeker {
             alloc,
-            finder: Finder::new(alloc, automaton)?,
-            completer: Completer::new(alloc, automaton.grammar())?,
+            finder: Finder::new(alloc, tables.automaton())?,
         })
     }
 
     /// The shortest sentence of a form.
     pub fn sentence(&self, tables: &Tables, form: &[Sym]) -> Made<Sought> {
-        if self.finder.length(form) > MOST_TOKENS {
+        let (shortest, grammar) = (&self.finder.shortest, tables.automaton().grammar());
+        if shortest.length_of(form) > MOST_TOKENS {
             return Ok(Sought::Long);
         }
-        match self.finder.sentence(tables.automaton(), form)? {
+        match shortest.sentence(self.alloc, grammar, form)? {
             Some(tokens) => Ok(Sought::Sentence(tokens)),
             None => Ok(Sought::Long),
         }
@@ -108,66 +106,41 @@ impl Seeker {
     /// The sentence with what stands on a stack, by the form that leads to its states.
     fn completed(&mut self, tables: &Tables, form: Vec<Sym>, states: &[usize]) -> Made<Sought> {
         let (mut form, automaton) = (form, tables.automaton());
-        let end = self.completer.complete(&self.finder, automaton, states)?;
-        self.finder.spend(self.completer.looked());
-        match end {
-            Some(end) => {
-                form.extend_from_slice(&end)?;
-                self.sentence(tables, &form)
-            }
-            None => Ok(Sought::Late),
+        let (alloc, shortest) = (self.alloc, &self.finder.shortest);
+        let end = end_over(alloc, shortest, automaton, states, Ties::Last, u64::MAX)?;
+        let End { items, looked } = end;
+        self.finder.spend(looked);
+        let Some(items) = items else {
+            return Ok(Sought::Late);
+        };
+        for item in &items {
+            form.extend_from_slice(rest_of(automaton.grammar(), *item))?;
         }
+        // the end of the input
+        form.pop();
+        self.sentence(tables, &form)
     }
 
     /// A shortest sentence that comes to a goal.
     pub fn shortest(&mut self, trier: &mut Trier<'_>, goal: Goal) -> io::Result<Sought> {
-        let Some(way) = self.way(trier.session.tables(), goal)? else {
+        let tables = trier.session.tables();
+        let (automaton, target) = (tables.automaton(), goal.target(tables));
+        let Found::Way(way) = self.finder.find(automaton, target)? else {
             return Ok(Sought::Late);
         };
-        match (goal.action(trier.session.tables()), goal.token) {
-            (Action::Shift(_), Some(token)) => {
-                Ok(self.by_shift(trier.session.tables(), way, token)?)
-            }
-            (Action::Reduce(_), Some(token)) => self.by_reduction(trier, &way, token),
-            _ => Ok(self.by_state(trier.session.tables(), way)?),
-        }
-    }
-
-    /// The symbols of a shortest way to a goal, unless the search takes too long.
-    fn way(&mut self, tables: &Tables, goal: Goal) -> Made<Option<Vec<Sym>>> {
-        match self
-            .finder
-            .shortest(tables.automaton(), goal.target(tables))?
-        {
-            Found::Way(way) => Ok(Some(way)),
-            Found::Nothing | Found::Late => Ok(None),
-        }
-    }
-
-    /// The sentence over a way, whatever comes after it.
-    fn by_state(&mut self, tables: &Tables, way: Vec<Sym>) -> Made<Sought> {
-        let states = states_over(self.alloc, tables.automaton(), &way)?;
-        self.completed(tables, way, &states)
-    }
-
-    /// The sentence over a way and a token that is shifted after it.
-    fn by_shift(&mut self, tables: &Tables, way: Vec<Sym>, token: Sym) -> Made<Sought> {
         let mut way = way;
-        way.push(token)?;
-        self.by_state(tables, way)
-    }
-
-    /// The sentence over a way and a token at which it is reduced.
-    fn by_reduction(
-        &mut self,
-        trier: &mut Trier<'_>,
-        way: &[Sym],
-        token: Sym,
-    ) -> io::Result<Sought> {
-        match self.sentence(trier.session.tables(), way)? {
-            Sought::Sentence(tokens) => self.after(trier, tokens, Some(token)),
-            sought => Ok(sought),
+        match (goal.action(tables), goal.token) {
+            (Action::Reduce(_), Some(token)) => {
+                return match self.sentence(tables, &way)? {
+                    Sought::Sentence(tokens) => self.after(trier, tokens, Some(token)),
+                    sought => Ok(sought),
+                };
+            }
+            (Action::Shift(_), Some(token)) => way.push(token).map_err(AllocError::from)?,
+            _ => {}
         }
+        let states = states_over(self.alloc, automaton, &way)?;
+        Ok(self.completed(tables, way, &states)?)
     }
 
     /// The sentence that begins with a list and a token, by the stack of a parse over both.
@@ -184,9 +157,8 @@ impl Seeker {
         if let Some(token) = token {
             tokens.push(token).map_err(AllocError::from)?;
         }
-        let before = trier.steps();
         let found = trier.stack_after(&tokens)?;
-        self.finder.spend(trier.steps().saturating_sub(before));
+        self.finder.spend(trier.steps);
         match found {
             Some(states) => {
                 let tables = trier.session.tables();

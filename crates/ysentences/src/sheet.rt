@@ -3,13 +3,13 @@
 //! `#`, stands after a line that says how many they are.
 
 use crate::choice::Missing;
+use crate::elements::{Elements, Kind};
 use crate::near::{Change, Near};
 use crate::seek::MOST_TOKENS;
 use std::alloc::Global;
 use std::io::{self, Write};
 use std::rt::Files;
-use ycounterexample::budget::ALL_STEPS;
-use ycover::elements::{Elements, Kind};
+use ycounterexample::search::ALL_STEPS;
 use yexplain::lines::newlines;
 use yexplain::reads::grammar_of;
 use yexplain::text::{Name, Names};
@@ -56,20 +56,8 @@ enum Shown {
     Untold,
 }
 
-/// Writes a text. Where it has several lines, or could be taken for a comment, how many lines it
-/// has stands before it.
-fn put_text<W: Write>(out: &mut W, text: &[u8]) -> io::Result<()> {
-    let lines = newlines(text).saturating_add(1);
-    if lines > 1 {
-        writeln!(out, "# a text of {lines} lines:")?;
-    } else if text.first() == Some(&b'#') {
-        writeln!(out, "# a text of 1 line:")?;
-    }
-    out.write_all(text)?;
-    writeln!(out)
-}
-
-/// Writes a list as it is shown.
+/// Writes a list as it is shown. Where a text has several lines, or could be taken for a comment,
+/// how many lines it has stands before it.
 fn put_shown<W: Write>(
     out: &mut W,
     grammar: &Grammar,
@@ -78,7 +66,16 @@ fn put_shown<W: Write>(
 ) -> io::Result<()> {
     match shown {
         Shown::Tokens => put_tokens(out, grammar, tokens),
-        Shown::Text(text) => put_text(out, text),
+        Shown::Text(text) => {
+            let lines = newlines(text).saturating_add(1);
+            if lines > 1 {
+                writeln!(out, "# a text of {lines} lines:")?;
+            } else if text.first() == Some(&b'#') {
+                writeln!(out, "# a text of 1 line:")?;
+            }
+            out.write_all(text)?;
+            writeln!(out)
+        }
         Shown::Untold => {
             let names = Names(grammar, tokens);
             writeln!(out, "# no text:{names}")
@@ -94,14 +91,6 @@ fn put_tokens<W: Write>(out: &mut W, grammar: &Grammar, tokens: &[Sym]) -> io::R
         write!(out, "{front}{name}")?;
     }
     writeln!(out)
-}
-
-/// Writes where a list is kept, where it is.
-fn put_saved<W: Write>(out: &mut W, path: Option<&String>) -> io::Result<()> {
-    match path {
-        Some(path) => writeln!(out, "# saved in {path}"),
-        None => Ok(()),
-    }
 }
 
 /// Writes how a sentence is changed, as the beginning of a line.
@@ -148,24 +137,6 @@ fn put_missing<W: Write>(out: &mut W, missing: Missing) -> io::Result<()> {
     }
 }
 
-/// Writes elements that a sentence is the first to use, as the end of a line.
-fn put_first<W: Write>(
-    out: &mut W,
-    elements: Elements<'_>,
-    kind: Kind,
-    new: &[usize],
-) -> io::Result<()> {
-    for (index, element) in new.iter().take(MOST_NAMED).enumerate() {
-        let front = if index > 0 { ", " } else { " " };
-        write!(out, "{front}")?;
-        elements.put_short(out, kind, *element)?;
-    }
-    match new.len().saturating_sub(MOST_NAMED) {
-        0 => writeln!(out),
-        more => writeln!(out, ", and {more} more"),
-    }
-}
-
 impl<W: Write, F: Files + AllocGlobal + Clone + Drop> Sheet<'_, W, F> {
     /// Removes the lists of an earlier run, and makes the folder, where one is wanted.
     pub fn begin(&mut self) -> io::Result<()> {
@@ -182,10 +153,20 @@ impl<W: Write, F: Files + AllocGlobal + Clone + Drop> Sheet<'_, W, F> {
         tokens: &[Sym],
         new: &[usize],
     ) -> io::Result<()> {
-        let word = kind.word(new.len());
+        let (word, elements) = (kind.word(new.len()), self.elements);
         write!(self.out, "# sentence {number}, the first to use {word}")?;
-        put_first(self.out, self.elements, kind, new)?;
-        self.put_list(number, tokens)?;
+        for (index, element) in new.iter().enumerate() {
+            if index < MOST_NAMED {
+                let front = if index > 0 { ", " } else { " " };
+                write!(self.out, "{front}")?;
+                elements.put_short(self.out, kind, *element)?;
+            }
+        }
+        match new.len().saturating_sub(MOST_NAMED) {
+            0 => writeln!(self.out)?,
+            more => writeln!(self.out, ", and {more} more")?,
+        }
+        self.put_list((number, 0), tokens, false)?;
         self.put_near(number, tokens)
     }
 
@@ -201,7 +182,7 @@ impl<W: Write, F: Files + AllocGlobal + Clone + Drop> Sheet<'_, W, F> {
         };
         write!(self.out, "# random sentence {number}{words}: ")?;
         verdict.put_words(self.out, grammar_of(elements.tables))?;
-        self.put_list(number, tokens)?;
+        self.put_list((number, 0), tokens, false)?;
         match verdict {
             Verdict::Undecided => {}
             _ => self.put_near(number, tokens)?,
@@ -243,59 +224,50 @@ impl<W: Write, F: Files + AllocGlobal + Clone + Drop> Sheet<'_, W, F> {
         }
     }
 
-    /// Writes a sentence, and where it is kept.
-    fn put_list(&mut self, number: usize, tokens: &[Sym]) -> io::Result<()> {
+    /// Writes a list, and where it is kept: a sentence, or one that is near to it.
+    fn put_list(
+        &mut self,
+        numbers: (usize, usize),
+        tokens: &[Sym],
+        is_near: bool,
+    ) -> io::Result<()> {
         let (shown, elements) = (self.shown(tokens)?, self.elements);
         if let Some(text) = self.filed(tokens, &shown)? {
-            let path = self.folder.store_text((number, 0), &text)?;
-            put_saved(self.out, path.as_ref())?;
+            let path = if is_near {
+                self.near_folder.store_text(numbers, &text)?
+            } else {
+                self.folder.store_text(numbers, &text)?
+            };
+            if let Some(path) = path {
+                writeln!(self.out, "# saved in {path}")?;
+            }
         }
         put_shown(self.out, grammar_of(elements.tables), tokens, &shown)
     }
 
-    /// Writes the lists that are near to a sentence, where they are wanted.
+    /// Writes the lists that are near to a sentence, where they are wanted, each with its verdict.
     fn put_near(&mut self, number: usize, tokens: &[Sym]) -> io::Result<()> {
-        match self.near.take() {
-            Some(near) => self.put_changes(near, number, tokens),
-            None => Ok(()),
-        }
-    }
-
-    /// Writes the lists that are near to a sentence.
-    fn put_changes(&mut self, near: Near, number: usize, tokens: &[Sym]) -> io::Result<()> {
-        let (mut near, elements) = (near, self.elements);
-        let mut place: usize = 0;
+        let Some(near) = self.near.take() else {
+            return Ok(());
+        };
+        let (mut near, elements, mut place) = (near, self.elements, 0usize);
+        let grammar = grammar_of(elements.tables);
         near.meet(tokens)?;
-        let changes = near.changes(tokens)?;
-        for change in &changes {
+        for change in &near.changes(tokens)? {
             let list = change.made(self.alloc, tokens)?;
             if near.meet(&list)? {
-                let grammar = grammar_of(elements.tables);
                 put_change(self.out, grammar, tokens.len(), *change)?;
-                self.put_changed((number, place), &list)?;
+                let verdict = self.verdict(&list)?;
+                let is_accepted = matches!(verdict, Verdict::Accepted(_));
+                self.changed = self.changed.saturating_add(1);
+                self.accepted = self.accepted.saturating_add(usize::from(is_accepted));
+                verdict.put_words(self.out, grammar)?;
+                self.put_list((number, place), &list, true)?;
                 place = place.saturating_add(1);
             }
         }
         self.near = Some(near);
         Ok(())
-    }
-
-    /// Writes the verdict on a list that is near to a sentence, and the list.
-    fn put_changed(&mut self, numbers: (usize, usize), list: &[Sym]) -> io::Result<()> {
-        let elements = self.elements;
-        let grammar = grammar_of(elements.tables);
-        let verdict = self.verdict(list)?;
-        self.changed = self.changed.saturating_add(1);
-        if let Verdict::Accepted(_) = verdict {
-            self.accepted = self.accepted.saturating_add(1);
-        }
-        verdict.put_words(self.out, grammar)?;
-        let shown = self.shown(list)?;
-        if let Some(text) = self.filed(list, &shown)? {
-            let path = self.near_folder.store_text(numbers, &text)?;
-            put_saved(self.out, path.as_ref())?;
-        }
-        put_shown(self.out, grammar, list, &shown)
     }
 
     /// Writes an element that no sentence uses, and why.

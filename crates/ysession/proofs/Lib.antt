@@ -2,3 +2,17 @@ pub mod Unwound
 pub mod Sessions
 pub mod Settings
 pub mod Changed
+pub mod Laws
+pub mod Yields
+pub mod Quiet
+pub mod OneVerdict
+pub mod Shifted
+pub mod Beginnings
+pub mod Soundness
+pub mod Sentential
+pub mod Way
+pub mod Completeness
+pub mod Exactness
+pub mod LongSentences
+pub mod RunStates
+pub mod Runs

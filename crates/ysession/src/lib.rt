@@ -1,8 +1,11 @@
-//! Sessions: a parse that goes forward and backward, what it shows, and its unwinding.
+//! Sessions: a parse that goes forward and backward, what it shows, and its unwinding; and the
+//! verdict on a list of tokens: whether it is a sentence, and how many steps its parse takes.
 #![tactic(auto)]
 
 pub mod session;
 mod shown;
 mod unwind;
+mod verdict;
 
 pub use session::Session;
+pub use verdict::{JudgeFault, Verdict, judge};

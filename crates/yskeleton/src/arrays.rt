@@ -1,7 +1,6 @@
 //! Arrays of numbers in C, each of the smallest type that holds its numbers.
 
-use std::io::{self, Write};
-use ycode::Numbers;
+use youtput::Output;
 
 /// How many numbers a line has.
 pub const IN_A_LINE: usize = 16;
@@ -17,29 +16,21 @@ pub fn type_of(greatest: usize) -> &'static str {
     }
 }
 
-/// Writes the numbers of an array, a comma after each.
-fn put_numbers<W: Write>(out: &mut W, numbers: &[usize]) -> io::Result<()> {
-    for (index, number) in numbers.iter().enumerate() {
-        let before = if index % IN_A_LINE == 0 { "\n  " } else { " " };
-        write!(out, "{before}{number},")?;
-    }
-    Ok(())
-}
-
-/// Writes an array of this name.
-pub fn put_array<W: Write>(out: &mut W, name: &str, numbers: &Numbers) -> io::Result<()> {
-    put_list(out, name, numbers.as_slice(), numbers.greatest())
-}
-
 /// Writes an array of numbers up to a greatest. An empty one has a 0, since C has no empty arrays.
-pub fn put_list<W: Write>(
-    out: &mut W,
-    name: &str,
-    numbers: &[usize],
-    greatest: usize,
-) -> io::Result<()> {
-    let kind = type_of(greatest);
-    write!(out, "static const {kind} {name}[] = {{")?;
-    put_numbers(out, if numbers.is_empty() { &[0] } else { numbers })?;
-    out.write_all(b"\n};\n")
+pub fn put_array(out: &mut Output, name: &str, numbers: &[usize], greatest: usize) {
+    out.put("static const ");
+    out.put(type_of(greatest));
+    out.put(" ");
+    out.put(name);
+    out.put("[] = {");
+    for (index, number) in numbers.iter().enumerate() {
+        out.put(if index % IN_A_LINE == 0 { "\n  " } else { " " });
+        out.number(*number);
+        out.put(",");
+    }
+    out.put(if numbers.is_empty() {
+        "\n  0,\n};\n"
+    } else {
+        "\n};\n"
+    });
 }

@@ -1,11 +1,11 @@
 //! What a parser and its header declare: the numbers of tokens, the type of values, and that of
 //! places.
 
+use crate::numbering::number_of;
 use crate::skeleton::Skeleton;
-use crate::text::Text;
-use std::io::{self, Write};
 use yexplain::reads::name_of;
 use ylalr::{ERROR, token_count};
+use youtput::Output;
 use yparts::options::Values;
 use yparts::parts::Target;
 use ysymbols::{Grammar, Sym};
@@ -21,17 +21,12 @@ pub struct CToken<'a> {
 
 /// Whether a name is one of C.
 pub fn is_c_name(name: &[u8]) -> bool {
-    name.first().map_or(false, |first| !first.is_ascii_digit())
-        && name.iter().all(|b| b.is_ascii_alphanumeric() || *b == b'_')
-}
-
-/// The number of a token.
-fn number_of(grammar: &Grammar, token: Sym) -> Option<u32> {
-    if token < grammar.symbols() {
-        grammar.number(token)
-    } else {
-        None
+    for byte in name {
+        if !byte.is_ascii_alphanumeric() && *byte != b'_' {
+            return false;
+        }
     }
+    name.first().map_or(false, |first| !first.is_ascii_digit())
 }
 
 /// The token, where it has a name in C.
@@ -41,41 +36,53 @@ pub fn in_c(grammar: &Grammar, token: Sym) -> Option<CToken<'_>> {
     is_c_name(name).then_some(CToken { name, number })
 }
 
-/// What bison names beside the tokens of a file, and their numbers.
-const OWN: [(&str, Own); 4] = [
-    ("EMPTY", Own::Number(-2)),
-    ("EOF", Own::Number(0)),
-    ("error", Own::Error),
-    ("UNDEF", Own::Number(2_147_483_647)),
+/// What bison names beside the tokens of a file, and their numbers but that of `error`.
+const OWN: [(&str, Option<i64>); 4] = [
+    ("EMPTY", Some(-2)),
+    ("EOF", Some(0)),
+    ("error", None),
+    ("UNDEF", Some(2_147_483_647)),
 ];
 
-/// A number of such a token.
+/// What stands around the names of tokens and their numbers.
 #[derive(Clone, Copy)]
-enum Own {
-    /// It is this one.
-    Number(i64),
-    /// That of `error`.
-    Error,
+struct Frame {
+    /// Before the name that comes next.
+    before: &'static str,
+    /// Before those after it.
+    later: &'static str,
+    /// Between a name and its number.
+    between: &'static str,
+    /// After the number.
+    after: &'static str,
 }
+
+/// Members of an enum.
+const MEMBERS: Frame = Frame {
+    before: "\n  ",
+    later: ",\n  ",
+    between: " = ",
+    after: "",
+};
+
+/// Macros.
+const MACROS: Frame = Frame {
+    before: "#define ",
+    later: "#define ",
+    between: " ",
+    after: "\n",
+};
 
 impl<'a> Skeleton<'a> {
     /// The token, where the file gives it a name in C.
     fn named(&self, token: Sym) -> Option<CToken<'a>> {
-        let is_made = self.parts.looks_of(token).is_made;
-        let named = in_c(self.grammar, token).filter(|_| !is_made)?;
-        let number = self.numbering.number(token)?;
-        Some(CToken {
-            number: u32::try_from(number).unwrap_or(named.number),
-            ..named
-        })
-    }
-
-    /// The number of a token that bison has beside those of the file.
-    fn own_number(&self, own: Own) -> i64 {
-        match own {
-            Own::Number(number) => number,
-            Own::Error => i64::from(self.error_number()),
+        if self.parts.looks_of(token).is_made {
+            return None;
         }
+        let CToken { name, number } = in_c(self.grammar, token)?;
+        let placed = self.numbering.number(token)?;
+        let number = u32::try_from(placed).unwrap_or(number);
+        Some(CToken { name, number })
     }
 
     /// The number of `error`.
@@ -84,162 +91,110 @@ impl<'a> Skeleton<'a> {
         u32::try_from(number).unwrap_or(256)
     }
 
-    /// Whether a file names by itself what bison names so.
-    fn is_named(&self, name: &str) -> bool {
-        let mut ends = self.parts.ends.iter();
-        match name {
-            "EOF" => ends.any(|end| *end == b"YYEOF".as_slice()),
-            "UNDEF" => self.grammar.find(b"YYUNDEF").is_some(),
-            _ => false,
-        }
-    }
-
-    /// Writes a member of the enum of tokens.
-    fn put_member<W: Write>(
+    /// Writes a token, whose name has two parts, and its number.
+    fn put_token(
         &self,
-        out: &mut W,
-        name: &[u8],
-        is_first: &mut bool,
-    ) -> io::Result<()> {
-        let between = if *is_first { "\n  " } else { ",\n  " };
-        *is_first = false;
-        write!(out, "{between}")?;
-        out.write_all(self.style.token_prefix())?;
-        out.write_all(name)
+        out: &mut Output,
+        frame: &mut Frame,
+        (front, name): (&[u8], &[u8]),
+        number: i64,
+    ) {
+        out.put(frame.before);
+        frame.before = frame.later;
+        out.put_bytes(self.style.token_prefix());
+        out.put_bytes(front);
+        out.put_bytes(name);
+        out.put(frame.between);
+        out.signed(number);
+        out.put(frame.after);
     }
 
-    /// Writes the name of a token that bison has beside those of the file.
-    fn put_own_name<W: Write>(&self, out: &mut W, name: &str) -> io::Result<()> {
-        out.write_all(self.style.token_prefix())?;
-        out.write_all(&self.style.macros)?;
-        write!(out, "{name}")
-    }
-
-    /// Writes the old macro of bison for what is no token.
-    pub fn put_error_code<W: Write>(&self, out: &mut W) -> io::Result<()> {
-        out.write_all(b"#define YYERRCODE ")?;
-        self.put_own_name(out, "UNDEF")?;
-        out.write_all(b"\n")
-    }
-
-    /// Writes the members that bison has beside those of the file.
-    fn put_own<W: Write>(&self, out: &mut W, is_first: &mut bool) -> io::Result<()> {
-        for (name, number) in OWN {
-            if !self.is_named(name) {
-                let number = self.own_number(number);
-                self.put_member(out, &self.style.macros, is_first)?;
-                write!(out, "{name} = {number}")?;
-            }
-        }
-        Ok(())
-    }
-
-    /// Writes the tokens as the members of an enum.
-    fn put_members<W: Write>(&self, out: &mut W) -> io::Result<()> {
-        let mut is_first = true;
+    /// Writes the tokens that have names in C: with those that bison has beside them, but for what
+    /// the file names by itself.
+    fn put_all_tokens(&self, out: &mut Output, mut frame: Frame) {
+        let ends = &self.parts.ends;
         if self.style.is_bison() {
-            self.put_own(out, &mut is_first)?;
+            let mut names_end = false;
+            for end in ends {
+                names_end = names_end || *end == b"YYEOF".as_slice();
+            }
+            let names_undefined = self.grammar.find(b"YYUNDEF").is_some();
+            for (name, number) in OWN {
+                let is_named = (name == "EOF" && names_end) || (name == "UNDEF" && names_undefined);
+                if !is_named {
+                    let number = number.unwrap_or(i64::from(self.error_number()));
+                    let parts = (self.style.macros.as_slice(), name.as_bytes());
+                    self.put_token(out, &mut frame, parts, number);
+                }
+            }
         }
-        for end in &self.parts.ends {
-            self.put_member(out, end, &mut is_first)?;
-            write!(out, " = 0")?;
+        for end in ends {
+            self.put_token(out, &mut frame, (b"", *end), 0);
         }
         for token in 2..token_count(self.grammar) {
             if let Some(CToken { name, number }) = self.named(token) {
-                self.put_member(out, name, &mut is_first)?;
-                write!(out, " = {number}")?;
+                self.put_token(out, &mut frame, (b"", name), i64::from(number));
             }
         }
-        Ok(())
-    }
-
-    /// Writes a `#define` for each token that has a name in C.
-    fn put_defines<W: Write>(&self, out: &mut W) -> io::Result<()> {
-        for (name, number) in OWN {
-            if self.style.is_bison() && !self.is_named(name) {
-                let number = self.own_number(number);
-                out.write_all(b"#define ")?;
-                self.put_own_name(out, name)?;
-                writeln!(out, " {number}")?;
-            }
-        }
-        for end in &self.parts.ends {
-            self.put_define(out, end, 0)?;
-        }
-        for token in 2..token_count(self.grammar) {
-            if let Some(CToken { name, number }) = self.named(token) {
-                self.put_define(out, name, number)?;
-            }
-        }
-        Ok(())
-    }
-
-    /// Writes the macro of a token.
-    fn put_define<W: Write>(&self, out: &mut W, name: &[u8], number: u32) -> io::Result<()> {
-        out.write_all(b"#define ")?;
-        out.write_all(self.style.token_prefix())?;
-        out.write_all(name)?;
-        writeln!(out, " {number}")
-    }
-
-    /// Whether any token has a name in C.
-    fn has_tokens(&self) -> bool {
-        let mut tokens = 2..token_count(self.grammar);
-        !self.parts.ends.is_empty() || tokens.any(|token| self.named(token).is_some())
     }
 
     /// Writes the numbers of the tokens that have names in C, as an enum.
-    fn put_enum(&self, out: &mut Text<'_>) -> io::Result<()> {
+    fn put_enum(&self, out: &mut Output) {
         let types = self.style.types;
-        self.put_macros(out, "\n#ifndef @TOKENTYPE\n# define @TOKENTYPE\nenum ")?;
-        out.add(types)?;
-        out.add(b"tokentype {")?;
-        self.put_members(out)?;
-        out.add(b"\n};\n")?;
+        self.put_macros(out, "\n#ifndef @TOKENTYPE\n# define @TOKENTYPE\nenum ");
+        out.put_pieces(&[types, b"tokentype {"]);
+        self.put_all_tokens(out, MEMBERS);
+        out.put("\n};\n");
         if self.style.is_bison() {
-            out.add(b"typedef enum ")?;
-            out.add(types)?;
-            out.add(b"tokentype ")?;
-            out.add(types)?;
-            out.add(b"token_kind_t;\n")?;
+            out.put_pieces(&[
+                b"typedef enum ",
+                types,
+                b"tokentype ",
+                types,
+                b"token_kind_t;\n",
+            ]);
         }
-        out.add(b"#endif\n")
+        out.put("#endif\n");
     }
 
     /// Writes the numbers of the tokens, as an enum and, but for bison, as macros.
-    pub fn put_tokens(&self, out: &mut Text<'_>) -> io::Result<()> {
+    pub fn put_tokens(&self, out: &mut Output) {
         let is_bison = self.style.is_bison();
-        if is_bison || self.has_tokens() {
-            self.put_enum(out)?;
+        let mut has_enum = is_bison || !self.parts.ends.is_empty();
+        for token in 2..token_count(self.grammar) {
+            has_enum = has_enum || self.named(token).is_some();
+        }
+        if has_enum {
+            self.put_enum(out);
         }
         if !is_bison || self.style.wishes.is_yacc {
-            self.put_defines(out)?;
+            self.put_all_tokens(out, MACROS);
         }
         if !is_bison {
-            let error = self.error_number();
-            writeln!(out, "#define YYERRCODE {error}")?;
+            out.put("#define YYERRCODE ");
+            out.signed(i64::from(self.error_number()));
+            out.put("\n");
         }
-        Ok(())
     }
 
-    /// Writes a line of which each `@` stands for what types and macros begin with in capitals.
-    pub fn put_macros(&self, out: &mut Text<'_>, text: &str) -> io::Result<()> {
-        let mut parts = text.split('@');
-        if let Some(first) = parts.next() {
-            out.add(first.as_bytes())?;
+    /// Writes a text of which each `@` stands for what types and macros begin with in capitals.
+    pub fn put_macros(&self, out: &mut Output, text: &str) {
+        let mut is_first = true;
+        for part in text.split('@') {
+            if !is_first {
+                out.put_bytes(&self.style.macros);
+            }
+            is_first = false;
+            out.put(part);
         }
-        for part in parts {
-            out.add(&self.style.macros)?;
-            out.add(part.as_bytes())?;
-        }
-        Ok(())
     }
 }
 
 /// What stands before the type of values, and after it.
 const VALUES_FRONT: &str = "\n#if ! defined @STYPE && ! defined @STYPE_IS_DECLARED\n";
 
-const VALUES_END: &str = "# define @STYPE_IS_TRIVIAL 1\n# define @STYPE_IS_DECLARED 1\n#endif\n";
+const VALUES_END: &str = " @STYPE;\n# define @STYPE_IS_TRIVIAL 1\n\
+    # define @STYPE_IS_DECLARED 1\n#endif\n";
 
 /// The type of places.
 const PLACES: &str = "\n#if ! defined @LTYPE && ! defined @LTYPE_IS_DECLARED\n\
@@ -254,103 +209,77 @@ const BYACC_PLACES: &str = "\n#if ! defined YYLTYPE && ! defined YYLTYPE_IS_DECL
     # define YYLTYPE_IS_DECLARED 1\n#endif\n";
 
 impl Skeleton<'_> {
-    /// Whether the file has a `%union`.
-    fn has_union(&self) -> bool {
-        let mut blocks = self.parts.blocks.iter();
-        blocks.any(|block| block.target == Target::Union)
-    }
-
-    /// Writes the name of the union of values.
-    fn put_union_name(&self, out: &mut Text<'_>) -> io::Result<()> {
-        match self.style.options.union_name {
-            Some(name) => out.add(name),
-            None => self.put_macros(out, "@STYPE"),
-        }
-    }
-
     /// Writes the members that the texts of `%union` have.
-    fn put_unions(&self, out: &mut Text<'_>) -> io::Result<()> {
-        out.add(b"\n{\n")?;
+    fn put_unions(&self, out: &mut Output) {
         for block in &self.parts.blocks {
             if block.target == Target::Union {
-                let text = block.piece.text;
-                let inner = text.get(1..text.len().saturating_sub(1)).unwrap_or(&[]);
-                out.from(block.piece.line, self.path)?;
-                out.add(inner)?;
-                out.back()?;
+                let mut piece = block.piece;
+                let end = piece.text.len().saturating_sub(1);
+                piece.text = piece.text.get(1..end).unwrap_or(&[]);
+                self.put_piece(out, piece);
             }
         }
-        out.add(b"};\n")
     }
 
     /// Writes a member for each symbol that has a tag.
-    fn put_fields(&self, out: &mut Text<'_>) -> io::Result<()> {
-        out.add(b"\n{\n")?;
+    fn put_fields(&self, out: &mut Output) {
         for symbol in 0..self.grammar.symbols() {
             let name = name_of(self.grammar, symbol);
             if let (Some(tag), true) = (self.parts.tag_of(symbol), is_c_name(name)) {
-                out.add(b"  ")?;
-                out.add(tag)?;
-                out.add(b" ")?;
-                if self.grammar.is_token(symbol) {
-                    out.add(self.style.token_prefix())?;
-                }
-                out.add(name)?;
-                out.add(b";\n")?;
+                let prefix = self.style.member_prefix(self.grammar, symbol);
+                out.put_pieces(&[b"  ", tag, b" ", prefix, name, b";\n"]);
             }
         }
-        out.add(b"};\n")
     }
 
-    /// Writes a union of values and its other name.
-    fn put_union(&self, out: &mut Text<'_>) -> io::Result<()> {
-        self.put_macros(out, VALUES_FRONT)?;
-        out.add(b"union ")?;
-        self.put_union_name(out)?;
+    /// Writes a union of values, and the front of another name for it.
+    fn put_union(&self, out: &mut Output) {
+        let (front, name): (&[u8], &[u8]) = match self.style.options.union_name {
+            Some(name) => (b"", name),
+            None => (self.style.macros.as_slice(), b"STYPE"),
+        };
+        out.put_pieces(&[b"union ", front, name, b"\n{\n"]);
         if self.style.options.values == Values::Symbols {
-            self.put_fields(out)?;
+            self.put_fields(out);
         } else {
-            self.put_unions(out)?;
+            self.put_unions(out);
         }
-        out.add(b"typedef union ")?;
-        self.put_union_name(out)?;
-        self.put_macros(out, " @STYPE;\n")?;
-        self.put_macros(out, VALUES_END)
-    }
-
-    /// Writes another name for a type of values.
-    fn put_typedef(&self, out: &mut Text<'_>, name: &[u8]) -> io::Result<()> {
-        self.put_macros(out, VALUES_FRONT)?;
-        out.add(b"typedef ")?;
-        out.add(name)?;
-        self.put_macros(out, " @STYPE;\n")?;
-        self.put_macros(out, VALUES_END)
+        out.put_pieces(&[b"};\ntypedef union ", front, name]);
     }
 
     /// Writes the type of values. Where a file has tags and no union, the type is the user's.
-    pub fn put_values(&self, out: &mut Text<'_>) -> io::Result<()> {
-        match self.style.options.values {
-            Values::Named(name) => self.put_typedef(out, name),
-            Values::Symbols => self.put_union(out),
-            Values::Declared if self.has_union() => self.put_union(out),
-            Values::Declared if self.style.has_tags => Ok(()),
-            Values::Declared => self.put_typedef(out, b"int"),
+    pub fn put_values(&self, out: &mut Output) {
+        let mut has_union = self.style.options.values == Values::Symbols;
+        for block in &self.parts.blocks {
+            has_union = has_union || block.target == Target::Union;
         }
+        let named: Option<&[u8]> = match self.style.options.values {
+            Values::Named(name) => Some(name),
+            _ if has_union => None,
+            _ if self.style.has_tags => return,
+            _ => Some(b"int"),
+        };
+        self.put_macros(out, VALUES_FRONT);
+        if let Some(name) = named {
+            out.put_pieces(&[b"typedef ", name]);
+        } else {
+            self.put_union(out);
+        }
+        self.put_macros(out, VALUES_END);
     }
 
     /// Writes the type of places, where there are some.
-    pub fn put_places(&self, out: &mut Text<'_>) -> io::Result<()> {
+    pub fn put_places(&self, out: &mut Output) {
         if !self.style.locations {
-            return Ok(());
+            return;
         }
-        match self.style.options.location_type {
-            Some(name) => {
-                out.add(b"\ntypedef ")?;
-                out.add(name)?;
-                self.put_macros(out, " @LTYPE;\n")
-            }
-            None if self.style.is_bison() => self.put_macros(out, PLACES),
-            None => out.add(BYACC_PLACES.as_bytes()),
+        if let Some(name) = self.style.options.location_type {
+            out.put_pieces(&[b"\ntypedef ", name]);
+            self.put_macros(out, " @LTYPE;\n");
+        } else if self.style.is_bison() {
+            self.put_macros(out, PLACES);
+        } else {
+            out.put(BYACC_PLACES);
         }
     }
 }

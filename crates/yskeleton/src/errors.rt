@@ -224,9 +224,7 @@ yysyntax_error (char *yyroom, size_t yysize, const yystate_number *yyssp, int yy
   char *yymsg = yyroom;
   char *yyto;
   int yyn = 0;
-@if verbose
-  (void) yystpcpy;
-@end
+@verbose   (void) yystpcpy;
   yytokens[0] = yytoken;
   switch (yycount)
     {
@@ -267,15 +265,11 @@ typedef struct
 {
   const yystate_number *yyssp;
   yysymbol_kind_t yytoken;
-@if locations
-  YYLTYPE *yylloc;
-@end
+@locations   YYLTYPE *yylloc;
 } yypcontext_t;
 
 #define yypcontext_token(context) ((context)->yytoken)
-@if locations
-#define yypcontext_location(context) ((context)->yylloc)
-@end
+@locations #define yypcontext_location(context) ((context)->yylloc)
 
 /* Notes up to so many tokens that could come, none where there are more, and gives their number;
    without a place for them it counts them all. */

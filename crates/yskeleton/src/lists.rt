@@ -5,19 +5,6 @@ use yexplain::reads::{Made, action_of, grammar_of};
 use ylalr::{ERROR, token_count};
 use ytables::{Action, Tables};
 
-/// The rule that a state makes at most tokens, the first of several, and how often.
-fn most_usual(counts: &[usize]) -> usize {
-    let mut best = 0;
-    let mut most = 0;
-    for (rule, count) in counts.iter().enumerate() {
-        if *count > most {
-            best = rule;
-            most = *count;
-        }
-    }
-    best
-}
-
 /// The rule of each state's reduction that is made at most tokens; 0 where there is none, or where
 /// the state shifts `error` (Bison manual, "Default Reductions").
 pub fn default_rules(alloc: Global, tables: &Tables) -> Made<Vec<usize>> {
@@ -30,27 +17,27 @@ pub fn default_rules(alloc: Global, tables: &Tables) -> Made<Vec<usize>> {
     Ok(rules)
 }
 
-/// The rule of the reduction that a state makes at most tokens; the counts are 0 before and after.
+/// The rule of the reduction that a state makes at most tokens, the first of several; the counts
+/// are 0 before and after.
 fn default_rule(tables: &Tables, state: usize, counts: &mut Vec<usize>) -> usize {
     if matches!(action_of(tables, state, ERROR), Action::Shift(_)) {
         return 0;
     }
-    let tokens = token_count(grammar_of(tables));
-    for token in 0..tokens {
-        count(counts, action_of(tables, state, token), true);
-    }
-    let best = most_usual(counts);
-    for token in 0..tokens {
-        count(counts, action_of(tables, state, token), false);
-    }
-    best
-}
-
-/// Counts a reduction, or takes it back.
-fn count(counts: &mut Vec<usize>, action: Action, up: bool) {
-    if let Action::Reduce(rule) = action {
-        if let Some(place) = counts.get_mut(rule) {
-            *place = if up { place.saturating_add(1) } else { 0 };
+    for token in 0..token_count(grammar_of(tables)) {
+        if let Action::Reduce(rule) = action_of(tables, state, token) {
+            if let Some(count) = counts.get_mut(rule) {
+                *count = count.saturating_add(1);
+            }
         }
     }
+    let mut best = 0;
+    let mut most = 0;
+    for (rule, count) in counts.iter_mut().enumerate() {
+        if *count > most {
+            best = rule;
+            most = *count;
+        }
+        *count = 0;
+    }
+    best
 }

@@ -11,9 +11,7 @@ YYPARSE_DECL()
   int yychar;
   int yynerrs;
   YYSTYPE yylval;
-@if locations
-  YYLTYPE yylloc;
-@end
+@locations   YYLTYPE yylloc;
 @end
   /* Each state on the stack stands for a symbol, but the first; so a value belongs to it. They are
      local, since a lexer may call this function again. */
@@ -62,9 +60,7 @@ YYPARSE_DECL()
   }
 @end
 #endif
-@if names
-  (void) yytname;
-@end
+@names   (void) yytname;
   memset (YY_CAST (void *, &yyval), 0, sizeof yyval);
   yynerrs = 0;
   yychar = YYNOTOKEN;
@@ -79,17 +75,13 @@ YYPARSE_DECL()
 # endif
 @end
 @end
-@if locations
-  memset (YY_CAST (void *, yyerror_range), 0, sizeof yyerror_range);
-@end
+@locations   memset (YY_CAST (void *, yyerror_range), 0, sizeof yyerror_range);
   *yyssp = 0;
 "##;
 
 /// The machine up to the actions.
 pub const MACHINE: &str = r##"
-@if locations
-  *yylsp = yylloc;
-@end
+@locations   *yylsp = yylloc;
   if (yyssp == yysslast)
     goto yygrow;
 
@@ -112,9 +104,7 @@ yyloop:
     {
       /* the lexer has told of the error itself */
       yychar = YYNOSYMBOL;
-@if locations
-      yyerror_range[1] = yylloc;
-@end
+@locations       yyerror_range[1] = yylloc;
       goto yyrecover;
     }
   yyn = yyrow[yystate] + yytoken;
@@ -143,18 +133,14 @@ yyloop:
       YYACCEPT;
     }
   YYTRACE ((stderr, "%sdebug: state %u, shifting to state %u\n", YYPREFIX, yystate, yyn));
-@if prints
-  YYSHOW ("shifted", YY_CAST (int, yytoken), &yylval, &yylloc);
-@end
+@prints   YYSHOW ("shifted", YY_CAST (int, yytoken), &yylval, &yylloc);
   YYSTEP ('s', yychar);
   if (yyerrflag > 0)
     --yyerrflag;
   yychar = YYNOTOKEN;
   yystate = yyn;
   *++yyvsp = yylval;
-@if locations
-  *++yylsp = yylloc;
-@end
+@locations   *++yylsp = yylloc;
 
 yypush:
   *++yyssp = YY_CAST (yystate_number, yystate);
@@ -186,17 +172,11 @@ pub const END: &str = r##"
     }
   YYPOPSTACK (yym);
   *++yyvsp = yyval;
-@if locations
-  *++yylsp = yyloc;
-@end
+@locations   *++yylsp = yyloc;
   yym = yylhs[yyn];
   YYGOTO (yystate, *yyssp, yym);
-@if prints
-  YYSHOW ("made", yystos[yystate], &yyval, &yyloc);
-@end
-@if destroys
-  yym = 0;
-@end
+@prints   YYSHOW ("made", yystos[yystate], &yyval, &yyloc);
+@destroys   yym = 0;
   goto yypush;
 
 yygrow:
@@ -204,13 +184,9 @@ yygrow:
     size_t yyused = YY_CAST (size_t, yyssp - yyss) + 1;
     yystate_number *yynewss;
     YYSTYPE *yynewvs;
-@if locations
-    YYLTYPE *yynewls;
-@end
+@locations     YYLTYPE *yynewls;
 
-@if destroys
-    yym = 0;
-@end
+@destroys     yym = 0;
     if (yydepth >= YYMAXDEPTH)
 @if bison
       YYNOMEM;
@@ -243,9 +219,7 @@ yygrow:
       {
         YYFREE (yyss);
         YYFREE (yyvs);
-@if locations
-        YYFREE (yyls);
-@end
+@locations         YYFREE (yyls);
       }
     yyss = yynewss;
     yyvs = yynewvs;
@@ -263,16 +237,12 @@ yygrow:
 yybackup:
   if (0)
     goto yybackup; /* so the label is used */
-@if destroys
-  yym = 0;
-@end
+@destroys   yym = 0;
   goto yyloop;
 
 @end
 yyerrlab:
-@if locations
-  yyerror_range[1] = yylloc;
-@end
+@locations   yyerror_range[1] = yylloc;
   if (yyerrflag == 3)
     {
       if (yychar == YYENDTOKEN)
@@ -293,18 +263,14 @@ yyerrlab:
         }
 @end
 @end
-@if destroys
-      YYDESTRUCT (YY_CAST (int, yytoken), &yylval, &yylloc);
-@end
+@destroys       YYDESTRUCT (YY_CAST (int, yytoken), &yylval, &yylloc);
       yychar = YYNOTOKEN;
       goto yyloop;
     }
   YYSTEP ('e', yychar);
   if (yyerrflag == 0)
     {
-@if bison
-      ++yynerrs;
-@end
+@bison       ++yynerrs;
 @if speaks
       if (yysaid[yystate] != 0)
         {
@@ -334,9 +300,7 @@ yyerrlab:
         (void) yysymbol_name;
         yycontext.yyssp = yyssp;
         yycontext.yytoken = YY_CAST (yysymbol_kind_t, yytoken);
-@if locations
-        yycontext.yylloc = &yylloc;
-@end
+@locations         yycontext.yylloc = &yylloc;
         if (YYREPORT (&yycontext) == 2)
           YYNOMEM;
       }
@@ -357,9 +321,7 @@ yyerrorlab:
   ++yynerrs;
   yym = yylen[yyn];
   YYPOPSTACK (yym);
-@if destroys
-  yym = 0;
-@end
+@destroys   yym = 0;
   yystate = *yyssp;
 
 yyrecover:
@@ -376,12 +338,8 @@ yyrecover:
         }
       YYTRACE ((stderr, "%sdebug: error recovery discarding state %u\n", YYPREFIX, yystate));
       YYSTEP ('p', YY_CAST (int, yystate));
-@if locations
-      yyerror_range[1] = *yylsp;
-@end
-@if destroys
-      YYDESTRUCT (yystos[yystate], yyvsp, yylsp);
-@end
+@locations       yyerror_range[1] = *yylsp;
+@destroys       YYDESTRUCT (yystos[yystate], yyvsp, yylsp);
       YYPOPSTACK (1);
       yystate = *yyssp;
     }
@@ -394,9 +352,7 @@ yyrecover:
   yyerror_range[2] = yylloc;
   YYLLOC_DEFAULT (yyloc, yyerror_range, 2);
   *++yylsp = yyloc;
-@if bison
-  yyerrdepth = YY_CAST (size_t, yyssp - yyss) + 1;
-@end
+@bison   yyerrdepth = YY_CAST (size_t, yyssp - yyss) + 1;
 @end
   goto yypush;
 
@@ -439,9 +395,7 @@ yyreturn:
     {
       YYFREE (yyss);
       YYFREE (yyvs);
-@if locations
-      YYFREE (yyls);
-@end
+@locations       YYFREE (yyls);
     }
   return yyresult;
 }

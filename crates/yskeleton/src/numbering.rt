@@ -1,13 +1,12 @@
 //! The numbers of tokens in a parser: those of the grammar, or those that the file gives where the
 //! grammar can't have them; and by which array or search they are translated.
 
-use crate::arrays::put_list;
-use crate::text::Text;
-use std::alloc::{AllocError, Global};
-use std::io::{self, Write};
+use crate::arrays::put_array;
+use std::alloc::Global;
 use ycode::Code;
 use yexplain::reads::Made;
 use ylalr::{ERROR, token_count};
+use youtput::Output;
 use yparts::parts::Parts;
 use ysymbols::{Grammar, Sym};
 
@@ -31,9 +30,9 @@ pub struct Numbering {
 }
 
 /// The number that a grammar gives a token.
-fn number_of(grammar: &Grammar, token: Sym) -> Option<usize> {
+pub fn number_of(grammar: &Grammar, token: Sym) -> Option<u32> {
     if token < grammar.symbols() {
-        grammar.number(token).map(|number| number as usize)
+        grammar.number(token)
     } else {
         None
     }
@@ -55,7 +54,7 @@ fn free_above(numbers: &[Option<usize>], greatest: usize) -> usize {
 fn all_numbers(alloc: Global, grammar: &Grammar, parts: &Parts<'_>) -> Made<Vec<Option<usize>>> {
     let mut numbers = Vec::new(alloc);
     for token in 0..token_count(grammar) {
-        numbers.push(number_of(grammar, token))?;
+        numbers.push(number_of(grammar, token).map(|number| number as usize))?;
     }
     let mut is_taken = false;
     for given in &parts.numbers {
@@ -116,26 +115,23 @@ impl Numbering {
         self.numbers.get(token).copied().flatten()
     }
 
-    /// The greatest number in the array.
-    pub fn greatest(&self) -> usize {
-        self.array.len().saturating_sub(1)
-    }
-
     /// Writes the tokens above the array, and how one is sought.
-    pub fn put_above(&self, alloc: Global, out: &mut Text<'_>, none: usize) -> io::Result<()> {
+    pub fn put_above(&self, alloc: Global, out: &mut Output, none: usize) -> Made<()> {
         let Some((greatest, _)) = self.above.last().copied() else {
             return Ok(());
         };
         let (mut numbers, mut tokens) = (Vec::new(alloc), Vec::new(alloc));
         for (number, token) in &self.above {
-            numbers.push(*number).map_err(AllocError::from)?;
-            tokens.push(*token).map_err(AllocError::from)?;
+            numbers.push(*number)?;
+            tokens.push(*token)?;
         }
-        put_list(out, "yyabove", &numbers, greatest)?;
-        put_list(out, "yyabovetoken", &tokens, none)?;
-        let count = self.above.len();
-        writeln!(out, "#define YYNABOVE {count}")?;
-        out.add(SOUGHT.as_bytes())
+        put_array(out, "yyabove", &numbers, greatest);
+        put_array(out, "yyabovetoken", &tokens, none);
+        out.put("#define YYNABOVE ");
+        out.number(self.above.len());
+        out.put("\n");
+        out.put(SOUGHT);
+        Ok(())
     }
 }
 

@@ -2,7 +2,8 @@
 //! such thing.
 
 use yforeign::quoted;
-use ylexemes::bytes::{after_comment, digit_run, is_digit, is_name_byte, is_name_start};
+use yforeign::runs::line_length;
+use ylexemes::bytes::{after_comment, digit_run, is_name_byte, is_name_start};
 
 /// Whose value or place is meant.
 #[derive(Clone, Copy, Debug, PartialEq, Eq)]
@@ -24,7 +25,7 @@ pub struct Reference<'a> {
     pub tag: Option<&'a [u8]>,
 }
 
-/// What stands at the front of a part of an action, in so many bytes.
+/// What stands at the front of a part of an action.
 #[derive(Clone, Copy)]
 pub enum Piece<'a> {
     /// Text of C that stays.
@@ -43,9 +44,10 @@ pub struct Dialect {
     /// Places.
     pub places: bool,
 }
-/// How many bytes a string or a character constant has that begins with this quote. As in C it
-/// ends with its line at the latest, so that an apostrophe in a text that is left out hides nothing
-/// of the next line.
+
+/// How many bytes a string or a character constant has that begins with a quote. As in C it ends
+/// with its line at the latest, so that an apostrophe in a text that is left out hides nothing of
+/// the next line.
 fn quoted_len(bytes: &[u8], quote: u8) -> usize {
     let mut escaped = true;
     for (index, byte) in bytes.iter().enumerate() {
@@ -60,24 +62,15 @@ fn quoted_len(bytes: &[u8], quote: u8) -> usize {
     bytes.len()
 }
 
-/// How many bytes stand before a newline.
-fn line_len(bytes: &[u8]) -> usize {
-    bytes.iter().take_while(|byte| **byte != b'\n').count()
-}
-
-/// How many bytes stand before the rest of some.
-fn len_before(bytes: &[u8], rest: Option<&[u8]>) -> usize {
-    bytes
-        .len()
-        .saturating_sub(rest.map_or(0, |rest| rest.len()))
-}
-
 /// How many bytes the string, the character constant, the comment or the byte at the front has.
 fn text_len(bytes: &[u8]) -> usize {
     match bytes {
         [quote, ..] if *quote == b'"' || *quote == b'\'' => quoted_len(bytes, *quote),
-        [b'/', b'*', ..] => len_before(bytes, after_comment(bytes)),
-        [b'/', b'/', ..] => line_len(bytes),
+        [b'/', b'*', ..] => {
+            let after = after_comment(bytes).unwrap_or(&[]);
+            bytes.len().saturating_sub(after.len())
+        }
+        [b'/', b'/', ..] => line_length(bytes),
         _ => 1,
     }
 }
@@ -95,41 +88,26 @@ fn tag_at(bytes: &[u8]) -> (Option<&[u8]>, &[u8]) {
     (Some(tag.trim_ascii()), bytes.get(length..).unwrap_or(&[]))
 }
 
-/// The number that digits spell, where they are few.
-fn value_of(digits: &[u8]) -> i64 {
-    let few = digits.iter().take(MOST_DIGITS);
-    few.fold(0, |value: i64, digit| {
-        value
-            .saturating_mul(10)
-            .saturating_add(i64::from(digit.wrapping_sub(b'0')))
-    })
-}
-
 /// So many digits are more than any body has symbols.
 const MOST_DIGITS: usize = 9;
 
-/// The number at the front, with a minus or without, and what follows it.
+/// The number at the front, with a minus or without, and what follows it. Of many digits the first
+/// ones count.
 fn number_at(bytes: &[u8]) -> Option<(i64, &[u8])> {
-    let (is_negative, rest) = match bytes.split_first() {
-        Some((b'-', rest)) => (true, rest),
-        _ => (false, bytes),
-    };
-    if !rest.first().map_or(false, |byte| is_digit(*byte)) {
+    let rest = bytes.strip_prefix(b"-").unwrap_or(bytes);
+    let (digits, after) = digit_run(rest);
+    if digits.is_empty() {
         return None;
     }
-    let (digits, after) = digit_run(rest);
-    let value = value_of(digits);
-    let value = if is_negative {
-        value.saturating_neg()
-    } else {
-        value
-    };
+    let mut value: i64 = 0;
+    for digit in digits.get(..MOST_DIGITS).unwrap_or(digits) {
+        let digit = i64::from(digit.wrapping_sub(b'0'));
+        value = value.saturating_mul(10).saturating_add(digit);
+    }
+    if rest.len() < bytes.len() {
+        value = value.saturating_neg();
+    }
     Some((value, after))
-}
-
-/// Whether a byte can stand in a name of C.
-fn is_in_c(b: u8) -> bool {
-    is_name_byte(b) && b != b'.'
 }
 
 /// The name at the front, in square brackets or as far as it is one of C, and what follows it.
@@ -138,13 +116,15 @@ fn name_at(bytes: &[u8]) -> Option<(&[u8], &[u8])> {
     if first == b'[' {
         let end = bytes.iter().position(|b| *b == b']')?;
         let name = bytes.get(1..end)?.trim_ascii();
-        let is_name = name.first().map_or(false, |b| is_name_start(*b));
-        return is_name.then_some((name, bytes.get(end.saturating_add(1)..)?));
+        if !is_name_start(*name.first()?) {
+            return None;
+        }
+        return Some((name, bytes.get(end.saturating_add(1)..)?));
     }
     if !is_name_start(first) || first == b'.' {
         return None;
     }
-    let end = bytes.iter().position(|b| !is_in_c(*b));
+    let end = bytes.iter().position(|b| !is_name_byte(*b) || *b == b'.');
     Some(bytes.split_at(end.unwrap_or(bytes.len())))
 }
 
@@ -179,27 +159,16 @@ fn named_at(bytes: &[u8], dialect: Dialect) -> Option<(Piece<'_>, &[u8])> {
     }
 }
 
-/// What stands at the front of a part of an action, and how many bytes it has, at least one.
-pub fn piece_at(bytes: &[u8], dialect: Dialect) -> (Piece<'_>, usize) {
-    match named_at(bytes, dialect) {
-        Some((piece, after)) => (piece, len_before(bytes, Some(after))),
+/// What stands at the front of a part of an action, its bytes and those after it; `None` where
+/// nothing does. It has a byte at least.
+pub fn piece_at(bytes: &[u8], dialect: Dialect) -> Option<(Piece<'_>, &[u8], &[u8])> {
+    if bytes.is_empty() {
+        return None;
+    }
+    let (piece, length) = match named_at(bytes, dialect) {
+        Some((piece, after)) => (piece, bytes.len().saturating_sub(after.len())),
         None => (Piece::Text, text_len(bytes)),
-    }
-}
-
-/// Whether a text names a place.
-pub fn names_place(text: &[u8], dialect: Dialect) -> bool {
-    let mut rest = text;
-    // each piece has a byte at least
-    for _ in text {
-        if rest.is_empty() {
-            break;
-        }
-        let (piece, taken) = piece_at(rest, dialect);
-        if let Piece::Place(_) = piece {
-            return true;
-        }
-        rest = rest.get(taken..).unwrap_or(&[]);
-    }
-    false
+    };
+    let (front, after) = bytes.split_at(length.min(bytes.len()));
+    Some((piece, front, after))
 }

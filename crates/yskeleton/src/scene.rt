@@ -1,6 +1,7 @@
 //! What an action sees: the values and places of its body, and the names of these.
 
 use crate::references::{Reference, Whose};
+use crate::skeleton::Skeleton;
 use crate::style::Style;
 use yexplain::lines::is_inner;
 use yexplain::reads::{body_of, left_of, name_of};
@@ -56,58 +57,55 @@ pub struct Scene<'a> {
     pub location: &'static str,
 }
 
-/// The rule in whose body an inner action stands: the next that is not one of an inner action.
-fn outer_of(grammar: &Grammar, rule: usize) -> usize {
-    (rule..grammar.rules())
-        .find(|number| !is_inner(grammar, *number))
-        .unwrap_or(rule)
-}
-
-/// The symbols that an action sees before it.
+/// The symbols that an action sees before it. An inner one stands in the body of the next rule
+/// that is not one of an inner action.
 fn before_of(grammar: &Grammar, rule: usize) -> &[Sym] {
     if !is_inner(grammar, rule) {
         return body_of(grammar, rule);
     }
     let left = left_of(grammar, rule);
-    let body = body_of(grammar, outer_of(grammar, rule));
-    let seen = body.iter().take_while(|symbol| Some(**symbol) != left);
-    body.get(..seen.count()).unwrap_or(&[])
+    for outer in rule..grammar.rules() {
+        if !is_inner(grammar, outer) {
+            let body = body_of(grammar, outer);
+            for (seen, symbol) in body.iter().enumerate() {
+                if Some(*symbol) == left {
+                    return body.get(..seen).unwrap_or(&[]);
+                }
+            }
+            return body;
+        }
+    }
+    &[]
 }
 
-impl<'a> Scene<'a> {
+impl<'a> Skeleton<'a> {
     /// What the action of a rule sees.
-    pub fn of_action(
-        grammar: &'a Grammar,
-        parts: &'a Parts<'a>,
-        style: &'a Style<'a>,
-        action: Action<'a>,
-    ) -> Scene<'a> {
+    pub fn action_scene(&self, action: Action<'a>) -> Scene<'a> {
         Scene {
-            grammar,
-            parts,
-            style,
-            before: before_of(grammar, action.rule),
-            left: left_of(grammar, action.rule),
-            names: parts.names_in(action.body),
-            is_inner: is_inner(grammar, action.rule),
+            grammar: self.grammar,
+            parts: self.parts,
+            style: self.style,
+            before: before_of(self.grammar, action.rule),
+            left: left_of(self.grammar, action.rule),
+            names: self.parts.names_in(action.body),
+            is_inner: is_inner(self.grammar, action.rule),
             is_strict: true,
             value: "yyval",
             location: "yyloc",
         }
     }
 
-    /// What code sees that stands in no rule: a value, of this symbol or of none, and a place.
-    pub fn of_value(
-        grammar: &'a Grammar,
-        parts: &'a Parts<'a>,
-        style: &'a Style<'a>,
+    /// What code sees that stands in no rule: a value, of this symbol or of none, and a place, as
+    /// these are called in C.
+    pub fn value_scene(
+        &self,
         left: Option<Sym>,
         (value, location): (&'static str, &'static str),
     ) -> Scene<'a> {
         Scene {
-            grammar,
-            parts,
-            style,
+            grammar: self.grammar,
+            parts: self.parts,
+            style: self.style,
             before: &[],
             left,
             names: &[],
@@ -117,39 +115,33 @@ impl<'a> Scene<'a> {
             location,
         }
     }
+}
 
-    /// Whether a name is that of a value that the action sees.
-    fn sees(&self, named: &Named<'_>) -> bool {
-        if named.place == 0 {
-            !self.is_inner
-        } else {
-            named.place <= self.before.len()
-        }
-    }
-
-    /// The number of the symbol that has a name; 0 is the left side.
-    fn number_of(&self, name: &[u8]) -> Result<usize, Misuse> {
+impl<'a> Scene<'a> {
+    /// Who is meant, by a number where it is not the left side.
+    fn meant(&self, whose: Whose<'_>) -> Result<Option<i64>, Misuse> {
+        let name = match whose {
+            Whose::Left => return Ok(None),
+            Whose::Symbol(number) => return Ok(Some(number)),
+            Whose::Named(name) => name,
+        };
         let mut found = None;
         for named in self.names {
-            if named.name == name && self.sees(named) {
+            let is_seen = match named.place {
+                0 => !self.is_inner,
+                place => place <= self.before.len(),
+            };
+            if named.name == name && is_seen {
                 if found.is_some() {
                     return Err(Misuse::Ambiguous);
                 }
                 found = Some(named.place);
             }
         }
-        found.ok_or(Misuse::Unknown)
-    }
-
-    /// Who is meant, by a number where it is not the left side.
-    fn meant(&self, whose: Whose<'_>) -> Result<Option<i64>, Misuse> {
-        match whose {
-            Whose::Left => Ok(None),
-            Whose::Symbol(number) => Ok(Some(number)),
-            Whose::Named(name) => match self.number_of(name)? {
-                0 => Ok(None),
-                number => Ok(Some(i64::try_from(number).unwrap_or(i64::MAX))),
-            },
+        match found {
+            None => Err(Misuse::Unknown),
+            Some(0) => Ok(None),
+            Some(place) => Ok(Some(i64::try_from(place).unwrap_or(i64::MAX))),
         }
     }
 
@@ -194,11 +186,7 @@ impl<'a> Scene<'a> {
         if self.style.options.values != Values::Symbols {
             return Some(Member::Tag(tag));
         }
-        let prefix = if self.grammar.is_token(symbol) {
-            self.style.token_prefix()
-        } else {
-            b""
-        };
+        let prefix = self.style.member_prefix(self.grammar, symbol);
         Some(Member::Symbol(prefix, name_of(self.grammar, symbol)))
     }
 

@@ -1,49 +1,49 @@
 //! Messages for errors that a parser in C says by itself: their pieces as an array, and the fixed
 //! texts that put them together.
 
-use crate::arrays::put_list;
-use crate::text::Text;
+use crate::arrays::put_array;
+use crate::strings::{Escaped, put_string};
 use std::alloc::Global;
-use std::io::{self, Write};
 use yexplain::reads::Made;
+use youtput::Output;
 
 /// The most bytes of a text in one piece: so no string is longer than C90 promises to take.
 const MOST_BYTES: usize = 100;
+
+/// A part of a message.
+#[derive(Clone, Copy)]
+pub enum Spoken<'a> {
+    /// A text.
+    Text(&'a [u8]),
+    /// The token that can't come, as 0, or an entry of the stack, counted from 1 at the top.
+    Value(usize),
+    /// The tokens that could come.
+    Expected,
+    /// The end.
+    End,
+}
 
 /// The messages of a parser: their pieces as items of an array, and where those of each state
 /// begin.
 #[derive(Drop)]
 pub struct Speech {
-    items: Vec<u8>,
+    items: Output,
     /// How many items there are; the first one is the end of no message.
     count: usize,
     /// For each state the first item of its message; 0 where it has none.
     firsts: Vec<usize>,
 }
 
-/// The digit of the last three bits of a byte.
-fn octal(byte: u8) -> u8 {
-    b'0'.saturating_add(byte & 7)
-}
-
-/// Writes a byte within a string of C.
-fn put_byte<W: Write>(out: &mut W, byte: u8) -> io::Result<()> {
-    match byte {
-        b'"' | b'\\' | b'?' => out.write_all(&[b'\\', byte]),
-        b'\n' => out.write_all(b"\\n"),
-        b' '..=b'~' => out.write_all(&[byte]),
-        _ => out.write_all(&[b'\\', octal(byte >> 6), octal(byte >> 3), octal(byte)]),
-    }
-}
-
 impl Speech {
     /// No message yet, for so many states.
     pub fn new(alloc: Global, states: usize) -> Made<Speech> {
-        Ok(Speech {
-            items: Vec::from_slice(alloc, b"  { YY_NULLPTR, -2 },\n")?,
-            count: 1,
+        let mut speech = Speech {
+            items: Output::new(alloc),
+            count: 0,
             firsts: vec![in alloc; 0usize; states]?,
-        })
+        };
+        speech.add(Spoken::End);
+        Ok(speech)
     }
 
     /// Begins the message of a state.
@@ -53,56 +53,43 @@ impl Speech {
         }
     }
 
-    /// Adds bytes to the message, in pieces.
-    pub fn add_text(&mut self, text: &[u8]) -> io::Result<()> {
-        let mut rest = text;
-        for _ in 0..=text.len() / MOST_BYTES {
-            let piece = rest.get(..MOST_BYTES).unwrap_or(rest);
-            if piece.is_empty() {
-                break;
+    /// Adds a part to the message, a text in pieces.
+    pub fn add(&mut self, part: Spoken<'_>) {
+        let items = &mut self.items;
+        match part {
+            Spoken::Text(text) => {
+                let mut rest = text;
+                for _ in text {
+                    let piece = rest.get(..MOST_BYTES).unwrap_or(rest);
+                    if piece.is_empty() {
+                        return;
+                    }
+                    items.put("  { \"");
+                    put_string(items, piece, Escaped::Unprinted);
+                    items.put("\", 0 },\n");
+                    self.count = self.count.saturating_add(1);
+                    rest = rest.get(piece.len()..).unwrap_or(&[]);
+                }
+                return;
             }
-            self.add_piece(piece)?;
-            rest = rest.get(piece.len()..).unwrap_or(&[]);
+            Spoken::Value(number) => {
+                items.put("  { YY_NULLPTR, ");
+                items.number(number);
+                items.put(" },\n");
+            }
+            Spoken::Expected => items.put("  { YY_NULLPTR, -1 },\n"),
+            Spoken::End => items.put("  { YY_NULLPTR, -2 },\n"),
         }
-        Ok(())
-    }
-
-    /// Adds a piece of a text.
-    fn add_piece(&mut self, piece: &[u8]) -> io::Result<()> {
-        self.items.write_all(b"  { \"")?;
-        for byte in piece {
-            put_byte(&mut self.items, *byte)?;
-        }
-        self.items.write_all(b"\", 0 },\n")?;
         self.count = self.count.saturating_add(1);
-        Ok(())
-    }
-
-    /// Adds the token that can't come, as 0, or an entry of the stack, counted from 1 at the top.
-    pub fn add_value(&mut self, number: usize) -> io::Result<()> {
-        self.count = self.count.saturating_add(1);
-        writeln!(self.items, "  {{ YY_NULLPTR, {number} }},")
-    }
-
-    /// Adds the tokens that could come.
-    pub fn add_expected(&mut self) -> io::Result<()> {
-        self.count = self.count.saturating_add(1);
-        self.items.write_all(b"  { YY_NULLPTR, -1 },\n")
-    }
-
-    /// Ends the message.
-    pub fn end(&mut self) -> io::Result<()> {
-        self.count = self.count.saturating_add(1);
-        self.items.write_all(b"  { YY_NULLPTR, -2 },\n")
     }
 
     /// Writes the arrays.
-    pub(crate) fn put(&self, out: &mut Text<'_>) -> io::Result<()> {
-        out.add(PIECE.as_bytes())?;
-        out.add(b"static const yypiece yypieces[] = {\n")?;
-        out.add(&self.items)?;
-        out.add(b"};\n")?;
-        put_list(out, "yysaid", &self.firsts, self.count)
+    pub(crate) fn put(&self, out: &mut Output) {
+        out.put(PIECE);
+        out.put("static const yypiece yypieces[] = {\n");
+        out.put_output(&self.items);
+        out.put("};\n");
+        put_array(out, "yysaid", &self.firsts, self.count);
     }
 }
 

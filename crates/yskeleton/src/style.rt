@@ -1,10 +1,11 @@
 //! How a parser looks: the order of its parts, its names, and what it can do.
 
+use crate::references::{Dialect, Piece, piece_at};
 use std::alloc::Global;
 use yexplain::reads::Made;
 use yparts::options::{Errors, Options, Purity};
 use yparts::parts::{Deed, Parts};
-use ysymbols::let_go;
+use ysymbols::{Grammar, Sym, let_go};
 
 /// Whose order and names a parser has.
 #[derive(Clone, Copy, Debug, PartialEq, Eq)]
@@ -63,56 +64,60 @@ impl Drop for Style<'_> {
     }
 }
 
-/// What macros begin with where types begin so: capitals, and lines below for what is no letter.
-fn capitals(alloc: Global, prefix: &[u8]) -> Made<Vec<u8>> {
-    let mut macros = Vec::from_slice(alloc, prefix)?;
-    for b in macros.iter_mut() {
-        *b = b.to_ascii_uppercase();
-    }
-    Ok(macros)
-}
-
-/// What names begin with: what words ask for, or else what the file does.
-fn prefix_of(alloc: Global, options: &Options<'_>, prefix: Option<&str>) -> Made<Vec<u8>> {
-    match prefix {
-        Some(prefix) => Vec::from_slice(alloc, prefix.as_bytes()),
-        None => {
-            let named = options.name_prefix.or(options.api_prefix);
-            Vec::from_slice(alloc, named.unwrap_or(b"yy"))
+/// Whether an action names a place.
+fn uses_places(parts: &Parts<'_>, dialect: Dialect) -> bool {
+    for action in &parts.actions {
+        let mut rest = action.piece.text;
+        for _ in action.piece.text {
+            match piece_at(rest, dialect) {
+                Some((Piece::Place(_), _, _)) => return true,
+                Some((_, _, after)) => rest = after,
+                None => break,
+            }
         }
     }
+    false
 }
 
-/// Whether a file has code of this kind.
-fn has(parts: &Parts<'_>, deed: Deed) -> bool {
-    parts.cares.iter().any(|care| care.deed == deed)
+/// How the parser of these parts looks, with names that begin with a prefix where one is given.
+pub fn style_of<'a>(
+    alloc: Global,
+    parts: &Parts<'a>,
+    wishes: Wishes,
+    prefix: Option<&str>,
+) -> Made<Style<'a>> {
+    let options = parts.options;
+    let types = options.api_prefix.unwrap_or(b"yy");
+    let mut macros = Vec::from_slice(alloc, types)?;
+    for byte in macros.iter_mut() {
+        *byte = byte.to_ascii_uppercase();
+    }
+    let named = options.name_prefix.unwrap_or(types);
+    let names = match prefix {
+        Some(prefix) => Vec::from_slice(alloc, prefix.as_bytes())?,
+        None => Vec::from_slice(alloc, named)?,
+    };
+    let (mut destroys, mut prints) = (false, false);
+    for care in &parts.cares {
+        destroys = destroys || care.deed == Deed::Destroy;
+        prints = prints || care.deed == Deed::Print;
+    }
+    let mut style = Style {
+        wishes,
+        options,
+        names,
+        types,
+        macros,
+        has_tags: parts.has_tags(),
+        locations: options.locations,
+        destroys,
+        prints,
+    };
+    style.locations = options.locations || uses_places(parts, style.dialect());
+    Ok(style)
 }
 
 impl<'a> Style<'a> {
-    /// How the parser of these parts looks, with names that begin with a prefix where one is given,
-    /// and with places where `uses_places`.
-    pub fn of(
-        alloc: Global,
-        parts: &Parts<'a>,
-        wishes: Wishes,
-        prefix: Option<&str>,
-        uses_places: bool,
-    ) -> Made<Style<'a>> {
-        let options = parts.options;
-        let types = options.api_prefix.unwrap_or(b"yy");
-        Ok(Style {
-            wishes,
-            options,
-            names: prefix_of(alloc, &options, prefix)?,
-            types,
-            macros: capitals(alloc, types)?,
-            has_tags: parts.has_tags(),
-            locations: options.locations || uses_places,
-            destroys: has(parts, Deed::Destroy),
-            prints: has(parts, Deed::Print),
-        })
-    }
-
     /// Whether it is bison's.
     pub fn is_bison(&self) -> bool {
         self.wishes.mode == Mode::Bison
@@ -121,6 +126,15 @@ impl<'a> Style<'a> {
     /// Whether each call has variables of its own.
     pub fn is_pure(&self) -> bool {
         self.options.purity != Purity::No
+    }
+
+    /// What actions may name. Names and places are bison's, but byacc has places where a file
+    /// wishes for them.
+    pub fn dialect(&self) -> Dialect {
+        Dialect {
+            names: self.is_bison(),
+            places: self.is_bison() || self.locations,
+        }
     }
 
     /// What is said of an error: in byacc's order that there is one.
@@ -152,25 +166,35 @@ impl<'a> Style<'a> {
         self.options.token_prefix.unwrap_or(b"")
     }
 
+    /// What the name of the member for a symbol begins with: that of a token as its name in C does.
+    pub fn member_prefix(&self, grammar: &Grammar, symbol: Sym) -> &'a [u8] {
+        if grammar.is_token(symbol) {
+            self.token_prefix()
+        } else {
+            b""
+        }
+    }
+
     /// What the names of the kinds of symbols begin with.
     pub fn symbol_prefix(&self) -> &'a [u8] {
         self.options.symbol_prefix.unwrap_or(b"YYSYMBOL_")
     }
 
-    /// The conditions of the fixed texts.
-    pub fn switches(&self) -> [(&'static str, bool); 11] {
-        [
-            ("bison", self.is_bison()),
-            ("pure", self.is_pure()),
-            ("locations", self.locations),
-            ("destroys", self.destroys),
-            ("prints", self.prints),
-            ("expecting", self.names_tokens()),
-            ("verbose", self.errors() == Errors::Verbose),
-            ("custom", self.is_custom()),
-            ("lists", self.lists()),
-            ("speaks", self.wishes.speaks),
-            ("names", self.options.has_names),
-        ]
+    /// Whether the condition of a fixed text holds that has this word.
+    pub fn holds(&self, word: &str) -> bool {
+        match word {
+            "bison" => self.is_bison(),
+            "pure" => self.is_pure(),
+            "locations" => self.locations,
+            "destroys" => self.destroys,
+            "prints" => self.prints,
+            "expecting" => self.names_tokens(),
+            "verbose" => self.errors() == Errors::Verbose,
+            "custom" => self.is_custom(),
+            "lists" => self.lists(),
+            "speaks" => self.wishes.speaks,
+            "names" => self.options.has_names,
+            _ => false,
+        }
     }
 }

@@ -207,9 +207,7 @@ yylocation_print (FILE *yyo, YYLTYPE const *yylocp)
 # define YYTRACE(words) do { if (yydebug) fprintf words; } while (0)
 @end
 #else
-@if bison
-# define YYDPRINTF(words) ((void) 0)
-@end
+@bison # define YYDPRINTF(words) ((void) 0)
 # define YYTRACE(words) ((void) 0)
 #endif
 

@@ -4,8 +4,8 @@ use Rattle.ylink.specs.declared.link.Link.{Link}
 use Rattle.ylink.specs.Link.{has_failed}
 use Rattle.ytokens.specs.declared.tokens.TokenFault.{TokenFault}
 use Rattle.ytokens.specs.declared.tokens.TokenFault.TheVariants as tokens
-use Rattle.ywords.specs.declared.arguments.YstepWords.{YstepWords}
-use Rattle.ywords.specs.Arguments.{ystep_app, ArePathsIn}
+use Rattle.ygenerate.specs.declared.arguments.YstepWords.{YstepWords}
+use Rattle.ygenerate.specs.Arguments.{ystep_app, ArePathsIn}
 use Rattle.ygenerate.specs.declared.message.Program.TheVariants.{Ystep}
 use Rattle.ygenerate.specs.declared.message.Trouble.{Trouble}
 use Rattle.ygenerate.specs.declared.message.Trouble.TheVariants.{NoMemory, CannotRead}

@@ -8,10 +8,10 @@ ghost use Rattle.ystepper.specs.Programs.{token_code, token_place};
 use crate::fault::SessionFault;
 use crate::stepper::StepperFault;
 use std::io::Write;
+use ygenerate::arguments::YstepWords;
 use ygenerate::message::{Program, Trouble};
 use ytables::Link;
 use ytokens::TokenFault;
-use ywords::arguments::YstepWords;
 
 /// Why `ystep` ends before its work is done.
 #[derive(Clone, Copy)]

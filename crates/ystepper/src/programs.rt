@@ -12,9 +12,9 @@ use std::alloc::Global;
 use std::io::{Read, Write};
 use std::rt::Files;
 use yfolder::{Disk, Folder};
+use ygenerate::arguments::{YstepWords, ystep_words};
 use ygenerate::message::{Trouble, put_help};
 use ytables::Link;
-use ywords::arguments::{YstepWords, ystep_words};
 
 /// What the words of a program ask for.
 enum Request<'a> {

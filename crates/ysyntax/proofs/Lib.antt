@@ -9,3 +9,4 @@ pub mod OneTree
 pub mod SiteSteps
 pub mod SoFar
 pub mod TreeSteps
+pub mod Lengths

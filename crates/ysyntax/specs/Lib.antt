@@ -9,3 +9,5 @@ pub mod TreeViews
 pub mod SiteViews
 pub mod TreeBuilder
 pub mod TreeTexts
+pub mod Roles
+pub mod Map

@@ -1,7 +1,8 @@
 //! Tests of grammars, automata, tables and the arrays of C parsers that need code: marks of grammars
 //! by the public calls; the symbols that vanish and the FIRST sets of an automaton, lookaheads
 //! beside the plain saturation, the limit of states; cells and choices, the greatest number of
-//! conflicts, where packed rows go, and writers that take a byte a call or fail; arrays by hand.
+//! conflicts, where packed rows go, and writers that take a byte a call or fail; arrays by hand;
+//! texts that are handed on to a device.
 #![tactic(auto)]
 
 #[cfg(test)]
@@ -18,6 +19,8 @@ mod displacements;
 mod made;
 #[cfg(test)]
 mod marks;
+#[cfg(test)]
+mod outputs;
 #[cfg(test)]
 mod reference;
 #[cfg(test)]

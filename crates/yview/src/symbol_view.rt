@@ -7,8 +7,8 @@ use std::io::Write;
 use yexplain::lines::Lines;
 use yexplain::reads::{begins_with, body_of, grammar_of, left_of, level_of, vanishes};
 use ylalr::token_count;
-use ysourcemap::Role;
 use ysymbols::{Grammar, Sym};
+use ysyntax::Role;
 use ytables::Tables;
 
 /// How many rules that use a symbol are shown.

@@ -1,6 +1,6 @@
 use Rattle.std.proofs.Common.{ℕ, ◌≤◌, ◌+◌, Option, IfSome, subst}
 use Rattle.ycode.specs.Cells.{wanted_at, states_of, rules_of}
-use Rattle.ycode.proofs.EntrySteps.{entries_more, rest_more, most_more}
+use Rattle.ycode.proofs.EntrySteps.{entries_more, rest_more, most_more, entries_for_more}
 use Rattle.ycode.proofs.cells.entries_of.Goals as goal
 
 pub loop-t-preserved : goal.loop-t-preserved
@@ -19,4 +19,6 @@ loop-t-preserved c =
       most = most_more old new t number adds inv.rest (states_of v + rules_of v)
           (λ k e. subst (λ (o : Option ℕ). IfSome o (λ n. n ≤ states_of v + rules_of v)) e
           c.wanted_at.ensures.most) inv.most;
+      list = entries_for_more (λ s. wanted_at v c.args.usual c.args.q s) old new t number adds
+          c.wanted_at.ensures.value inv.list;
     }

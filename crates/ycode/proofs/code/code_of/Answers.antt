@@ -4,12 +4,14 @@ use Rattle.ysymbols.specs.Grammar.{GrammarValue, body_of, left_of}
 use Rattle.ysymbols.specs.WellFormed.{WellFormed}
 use Rattle.ylalr.specs.Collection.{Collection, HasStates}
 use Rattle.ycode.specs.declared.entry.Entry.{Entry}
-use Rattle.ycode.specs.Cells.{states_of, tokens_of, rules_of}
+use Rattle.ycode.specs.Cells.{states_of, tokens_of, symbols_of, rules_of}
 use Rattle.ycode.specs.Combs.{HasRows, AreAtMost}
 use Rattle.ycode.specs.Entries.{NumbersAtMost}
-use Rattle.ycode.specs.Translation.{TranslatesTo}
+use Rattle.ycode.specs.Translation.{TranslatesTo, tokens_for}
+use Rattle.ycode.specs.Layout.{comb_for}
 use Rattle.ycode.proofs.ReadSteps.{values_most, targets_most}
 use Rattle.ycode.proofs.CodeSteps.{reads, inside, small}
+use Rattle.ycode.proofs.WholeSteps.{code_is}
 use Rattle.ycode.proofs.code.code_of.Goals as goal
 
 pub returns : goal.returns
@@ -75,6 +77,18 @@ returns c =
     c.in_ok-translation_of.ensures.translates) in
     let ns : AreAtMost (tokens_of v) numbers = subst (λ (k : ℕ). AreAtMost k numbers) a.tokens
     c.in_ok-translation_of.ensures.most in
+    let e1 : c1 ≡ comb_for (tokens_of v + 1) cells.rows.items =
+    c.in_ok-comb_of.ensures.exact ∙
+    (ap (λ (rows : List (List Entry)). comb_for (z.tokens + 1) rows) c.deref.ensures.value ∙
+    ap (λ (w : ℕ). comb_for (w + 1) cells.rows.items) a.tokens) in
+    let narrow : z.symbols - z.tokens ≡ symbols_of v - tokens_of v = (let f = a.tokens in
+    let g = a.symbols in omega (arith, f, g)) in
+    let e2 : c2 ≡ comb_for (symbols_of v - tokens_of v) tg.rows.items =
+    c.in_ok-comb_of-2.ensures.exact ∙
+    (ap (λ (rows : List (List Entry)). comb_for (z.symbols - z.tokens) rows)
+    c.deref-2.ensures.value ∙ ap (λ (w : ℕ). comb_for w tg.rows.items) narrow) in
+    let ne : numbers ≡ tokens_for v.built.grammar.numbers =
+    c.in_ok-translation_of.ensures.list ∙ ap (λ (x : GrammarValue). tokens_for x.numbers) g in
     rw (
       c.of.ensures,
       c.of-2.ensures,
@@ -82,19 +96,24 @@ returns c =
       c.of-3.ensures ∙ c.into_bytes.ensures,
       c.of-4.ensures,
     ) record {
-      reads = reads v z a cells.usual.items cells.sets.items cells.known cells.rows.items c1 ce be i
-          h1 tg.usual.items tg.rows.items c2 t h2 symbols lengths lefts numbers hs
-          c.in_ok-symbols_of.ensures.len c.in_ok-symbols_of.ensures.symbols z.states z.rules
-          z.tokens
-          a.states a.rules a.tokens le fe tr;
-      inside = inside v z a cells.usual.items cells.sets.items cells.known cells.rows.items c1 ce be
-          i h1 tg.usual.items tg.rows.items c2 t h2 symbols lengths lefts numbers hs
-          c.in_ok-symbols_of.ensures.len c.in_ok-symbols_of.ensures.symbols z.states z.rules
-          z.tokens
-          a.states a.rules a.tokens w ll fl fe ns;
-      small = small v z a cells.usual.items cells.sets.items cells.known cells.rows.items c1 ce be
-          i h1 tg.usual.items tg.rows.items c2 t h2 symbols lengths lefts numbers hs
-          c.in_ok-symbols_of.ensures.len c.in_ok-symbols_of.ensures.symbols z.states z.rules
-          z.tokens
-          a.states a.rules a.tokens w ll fl le fe v1 v2 ns c.in_ok-translation_of.ensures.few;
+      value = code_is v cells.usual.items cells.sets.items cells.known cells.rows.items ce be
+          tg.usual.items tg.rows.items t c1 c2 e1 e2 z.states z.rules z.tokens a.states a.rules
+          a.tokens symbols lengths lefts numbers c.in_ok-symbols_of.ensures.list ll le fl fe ne;
+      says = record {
+        reads = reads v z a cells.usual.items cells.sets.items cells.known cells.rows.items c1 ce be i
+            h1 tg.usual.items tg.rows.items c2 t h2 symbols lengths lefts numbers hs
+            c.in_ok-symbols_of.ensures.len c.in_ok-symbols_of.ensures.symbols z.states z.rules
+            z.tokens
+            a.states a.rules a.tokens le fe tr;
+        inside = inside v z a cells.usual.items cells.sets.items cells.known cells.rows.items c1 ce be
+            i h1 tg.usual.items tg.rows.items c2 t h2 symbols lengths lefts numbers hs
+            c.in_ok-symbols_of.ensures.len c.in_ok-symbols_of.ensures.symbols z.states z.rules
+            z.tokens
+            a.states a.rules a.tokens w ll fl fe ns;
+        small = small v z a cells.usual.items cells.sets.items cells.known cells.rows.items c1 ce be
+            i h1 tg.usual.items tg.rows.items c2 t h2 symbols lengths lefts numbers hs
+            c.in_ok-symbols_of.ensures.len c.in_ok-symbols_of.ensures.symbols z.states z.rules
+            z.tokens
+            a.states a.rules a.tokens w ll fl le fe v1 v2 ns c.in_ok-translation_of.ensures.few;
+      };
     }

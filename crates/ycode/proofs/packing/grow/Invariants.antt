@@ -9,6 +9,8 @@ invariant-loop-values l = record {
   most : vec_len l.checks ≤ max (vec_len l.initial.checks) l.end;
   even : vec_len l.initial.values ≡ vec_len l.initial.checks →
       vec_len l.values ≡ vec_len l.checks;
+  marks : vec_len l.initial.begun ≡ vec_len l.initial.checks →
+      vec_len l.begun ≡ vec_len l.checks;
 }
 
 abbrev pub decreases-loop-values : goal.decreases-loop-values

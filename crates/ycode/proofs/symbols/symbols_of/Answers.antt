@@ -4,7 +4,8 @@ use Rattle.std.proofs.Common.{arith, length-append}
 use Rattle.ysymbols.specs.Grammar.{GrammarValue}
 use Rattle.ylalr.specs.declared.items.Item.{Item}
 use Rattle.ylalr.specs.Collection.{Collection, state_of}
-use Rattle.ycode.specs.Symbols.{StandsBefore}
+use Rattle.ycode.specs.Symbols.{StandsBefore, symbol_for}
+use Rattle.ycode.proofs.ListSteps.{made_more}
 use Rattle.ycode.proofs.SymbolSteps.{symbols_more}
 use Rattle.ycode.proofs.symbols.symbols_of.Goals as goal
 
@@ -21,7 +22,10 @@ loop-q-preserved c =
     let here : StandsBefore v.built.grammar.bare (state_of v.built q) s =
     subst (λ (k : List Item). StandsBefore v.built.grammar.bare k s) items
     (subst (λ (x : GrammarValue). StandsBefore x.bare c.items.result.now s) g
-    c.symbol_before.ensures) in
+    c.symbol_before.ensures.before) in
+    let is : s ≡ symbol_for v.built.grammar.bare (state_of v.built q) =
+    c.symbol_before.ensures.is ∙ (ap (λ (x : GrammarValue). symbol_for x.bare c.items.result.now) g
+    ∙ ap (symbol_for v.built.grammar.bare) items) in
     let more : c.push.new.self.items ≡ c.loop-q.symbols.items ++ s ∷ [] =
     c.in_ok-push.ensures.items in
     record {
@@ -29,6 +33,8 @@ loop-q-preserved c =
           ap (λ n. n + 1) inv.len);
       symbols = symbols_more v.built.grammar.bare (state_of v.built) c.loop-q.symbols.items
           c.push.new.self.items q s inv.len more here inv.symbols;
+      list = made_more (λ k. symbol_for v.built.grammar.bare (state_of v.built k))
+          c.loop-q.symbols.items c.push.new.self.items q s more inv.list is;
     }
 
 pub returns-clause-symbols : goal.returns-clause-symbols

@@ -1,10 +1,10 @@
-use Rattle.std.proofs.Common.{ℕ, ◌≡◌, ◌+◌, ◌<◌, List, [], ◌∷◌, ◌++◌, length, subst, sym}
+use Rattle.std.proofs.Common.{ℕ, ◌≡◌, ◌+◌, ◌<◌, List, [], ◌∷◌, ◌++◌, length, subst, sym, ap, ◌∙◌}
 use Rattle.std.proofs.Common.{slice_index}
 use Rattle.ylalr.specs.Collection.{goto_in}
 use Rattle.ycode.specs.declared.entry.Entry.{Entry}
 use Rattle.ycode.specs.Cells.{tokens_of}
 use Rattle.ycode.specs.Entries.{entry_at}
-use Rattle.ycode.specs.Targets.{AreTargets, beside}
+use Rattle.ycode.specs.Targets.{AreTargets, beside, goto_entries}
 use Rattle.ycode.proofs.CellLoops.{targets_more}
 use Rattle.ycode.proofs.targets.all_targets.Goals as goal
 
@@ -23,4 +23,5 @@ loop-q-preserved c =
     c.in_ok-entries.ensures.entries in
     subst (λ (rows : List (List Entry)). AreTargets v (q + 1) usual rows) (sym items)
     (targets_more v q usual c.loop-q.rows.items es c.loop-q.invariant each
-    c.in_ok-entries.ensures.most)
+    c.in_ok-entries.ensures.most
+    (c.in_ok-entries.ensures.list ∙ ap (λ (u : List ℕ). goto_entries v u q) c.deref.ensures.value))

@@ -3,7 +3,7 @@ use Rattle.ylalr.specs.Collection.{goto_in}
 use Rattle.ycode.specs.Cells.{states_of, tokens_of}
 use Rattle.ycode.specs.Targets.{beside}
 use Rattle.ycode.proofs.CellSteps.{beside_most}
-use Rattle.ycode.proofs.EntrySteps.{entries_more, rest_more, most_more}
+use Rattle.ycode.proofs.EntrySteps.{entries_more, rest_more, most_more, entries_for_more}
 use Rattle.ycode.proofs.targets.entries_of.Goals as goal
 
 pub loop-x-preserved : goal.loop-x-preserved
@@ -29,4 +29,7 @@ loop-x-preserved c =
           (goto_in v.built q (tokens_of v + x)) (sym is ∙ e) in
           let l = c.requires.sizes.gotos q (tokens_of v + x) k c.requires.state
           (let z = c.requires.symbols in omega arith) to in omega (arith, l))) inv.most;
+      list = entries_for_more
+          (λ s. beside (slice_index usual s) (goto_in v.built q (tokens_of v + s))) old new x number
+          adds is inv.list;
     }

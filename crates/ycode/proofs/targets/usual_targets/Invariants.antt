@@ -1,10 +1,12 @@
-use Rattle.std.proofs.Common.{◌≡◌, ◌-◌, length}
+use Rattle.std.proofs.Common.{◌≡◌, map}
+use Rattle.std.specs.List.{range_with_len}
 use Rattle.ycode.specs.Combs.{AreAtMost}
+use Rattle.ycode.specs.Targets.{gotos_over}
+use Rattle.ycode.specs.Usual.{most_usual}
 use Rattle.ycode.proofs.targets.usual_targets.Given as goal
 
-abbrev pub invariant-loop-q : goal.invariant-loop-q
-invariant-loop-q l = record {
-  counts : length l.counts.items ≡ l.sizes.states;
-  len : length l.usual.items ≡ l.sizes.symbols - l.sizes.tokens;
+abbrev pub invariant-loop-x : goal.invariant-loop-x
+invariant-loop-x l = record {
+  list : l.usual.items ≡ map (λ x. most_usual (gotos_over l.tables x)) (range_with_len 0 l.x);
   most : AreAtMost l.sizes.states l.usual.items;
 }

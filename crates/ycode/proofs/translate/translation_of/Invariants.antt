@@ -1,6 +1,6 @@
 use Rattle.std.proofs.Common.{ℕ, ◌≡◌, ◌<◌, ◌≤◌, ◌^◌, Some, slice_get, length}
 use Rattle.ycode.specs.Combs.{AreAtMost}
-use Rattle.ycode.specs.Translation.{TranslatesTo}
+use Rattle.ycode.specs.Translation.{TranslatesTo, bound_for}
 use Rattle.ycode.proofs.translate.translation_of.Given as goal
 
 abbrev pub invariant-loop-s : goal.invariant-loop-s
@@ -10,4 +10,5 @@ invariant-loop-s l = record {
   translates : TranslatesTo l.s l.grammar.numbers l.tokens l.symbols.items;
   most : AreAtMost l.tokens l.symbols.items;
   few : length l.symbols.items ≤ 2 ^ 32;
+  len : length l.symbols.items ≡ bound_for l.grammar.numbers;
 }

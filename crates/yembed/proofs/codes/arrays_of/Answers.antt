@@ -5,5 +5,6 @@ returns-in-Ok-made-clause-code c =
     record {
       tables = c.in-Ok.tables;
       are = c.in-Ok.ensures.tables;
-      says = c.in-Ok-made.ensures;
+      says = c.in-Ok-made.ensures.says;
+      value = c.in-Ok-made.ensures.value;
     }

@@ -6,7 +6,7 @@ use Rattle.ylalr.proofs.DraftSteps.{rule_below, row_below, opens_none, opens_now
 use Rattle.ylalr.proofs.DraftSteps.{Opening, row_linked, sound_begun, carries_open, sound_linked}
 use Rattle.ylalr.proofs.DraftSteps.{sound_rows}
 use Rattle.yrows.proofs.Growth.{sized_then}
-use Rattle.yspread.proofs.LinkSteps.{link_there, link_kept}
+use Rattle.yrows.proofs.LinkSteps.{link_there, link_kept}
 use Rattle.ylalr.proofs.looks.open.Goals.{After-add_rest}
 use Rattle.ylalr.proofs.looks.open.Goals as goal
 

@@ -1,5 +1,5 @@
 use Rattle.std.proofs.Common.{ℕ, ◌<◌, length}
-use Rattle.yspread.specs.Links.{AreLinks}
+use Rattle.yrows.specs.Links.{AreLinks}
 use Rattle.yreasons.specs.Trail.{IsListed}
 use Rattle.yreasons.proofs.before.before_of.Given as goal
 

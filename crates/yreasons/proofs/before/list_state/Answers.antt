@@ -4,8 +4,8 @@ use Rattle.ysymbols.specs.Grammar.{body_of}
 use Rattle.ylalr.specs.declared.items.Item.{Item}
 use Rattle.ylalr.specs.Collection.{bare_of, state_of, goto_in}
 use Rattle.yrows.proofs.Turn.{same_default}
-use Rattle.yspread.specs.Links.{Link}
-use Rattle.yspread.proofs.LinkSteps.{link_there, link_kept, links_push}
+use Rattle.yrows.specs.Links.{Link}
+use Rattle.yrows.proofs.LinkSteps.{link_there, link_kept, links_push}
 use Rattle.yreasons.proofs.BeforeSteps.{last_or_before}
 use Rattle.yreasons.proofs.before.list_state.Goals.{After-target, in-Some+in_ok-push, in_default}
 use Rattle.yreasons.proofs.before.list_state.Goals as goal

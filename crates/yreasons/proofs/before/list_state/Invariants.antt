@@ -2,7 +2,7 @@ use Rattle.std.proofs.Common.{ℕ, ◌≡◌, ◌<◌, ◌∷◌, List, length, 
 use Rattle.ysymbols.specs.Grammar.{body_of}
 use Rattle.ylalr.specs.declared.items.Item.{Item}
 use Rattle.ylalr.specs.Collection.{bare_of, state_of, goto_in}
-use Rattle.yspread.specs.Links.{AreLinks, Link, MoreLinks}
+use Rattle.yrows.specs.Links.{AreLinks, Link, MoreLinks}
 use Rattle.yreasons.proofs.before.list_state.Given as goal
 
 -- the state is listed where the items so far lead

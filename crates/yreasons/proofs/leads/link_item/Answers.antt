@@ -2,8 +2,8 @@ use Rattle.std.proofs.Common.{ℕ, ◌≡◌, ◌<◌, ◌∙◌, ◌∷◌, ◌
 use Rattle.ysymbols.specs.Grammar.{GrammarValue, Production, left_of}
 use Rattle.ysymbols.specs.WellFormed.{WellFormed}
 use Rattle.ylalr.specs.Collection.{bare_of}
-use Rattle.yspread.specs.Links.{Link}
-use Rattle.yspread.proofs.LinkSteps.{link_cases, link_kept, link_there, links_push}
+use Rattle.yrows.specs.Links.{Link}
+use Rattle.yrows.proofs.LinkSteps.{link_cases, link_kept, link_there, links_push}
 use Rattle.yreasons.specs.Leads.{IsOpening}
 use Rattle.yreasons.proofs.leads.link_item.Goals.{In_ok-push}
 use Rattle.yreasons.proofs.leads.link_item.Goals as goal

@@ -4,7 +4,7 @@ use Rattle.std.proofs.lemmas.List.Elements.{Contains-get_or}
 use Rattle.ylalr.specs.declared.items.Item.{Item}
 use Rattle.ylalr.specs.Collection.{state_of}
 use Rattle.yrows.proofs.Turn.{same_default}
-use Rattle.yspread.specs.Links.{Link}
+use Rattle.yrows.specs.Links.{Link}
 use Rattle.yreasons.specs.Leads.{IsOpening}
 use Rattle.yreasons.proofs.BeforeSteps.{last_or_before}
 use Rattle.yreasons.proofs.leads.openings.Goals as goal

@@ -2,7 +2,7 @@ use Rattle.std.proofs.Common.{ℕ, ◌≡◌, ◌<◌, get_or}
 use Rattle.std.specs.List.{Contains}
 use Rattle.ylalr.specs.declared.items.Item.{Item}
 use Rattle.ylalr.specs.Collection.{bare_of, state_of}
-use Rattle.yspread.specs.Links.{AreLinks, Link}
+use Rattle.yrows.specs.Links.{AreLinks, Link}
 use Rattle.yreasons.specs.Leads.{IsOpening}
 use Rattle.yreasons.proofs.leads.openings.Given as goal
 

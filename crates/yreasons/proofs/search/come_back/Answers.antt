@@ -4,8 +4,8 @@ use Rattle.std.specs.List.{Contains}
 use Rattle.ysymbols.specs.Grammar.{GrammarValue, Production, body_of}
 use Rattle.ylalr.specs.Collection.{bare_of, goto_in}
 use Rattle.yrows.proofs.Turn.{same_default}
-use Rattle.yspread.specs.Links.{links_of}
-use Rattle.yspread.proofs.LinkSteps.{links_below}
+use Rattle.yrows.specs.Links.{links_of}
+use Rattle.yrows.proofs.LinkSteps.{links_below}
 use Rattle.yreasons.specs.declared.reason.Place.{Place}
 use Rattle.yreasons.specs.declared.trail.Entry.{Entry}
 use Rattle.yreasons.specs.Reasons.{place_of}

@@ -1,7 +1,7 @@
 use Rattle.std.proofs.Common.{ℕ, suc, ◌≡◌, ◌<◌, get_or, Some}
 use Rattle.std.specs.List.{Contains}
 use Rattle.ylalr.specs.Collection.{goto_in}
-use Rattle.yspread.specs.Links.{links_of}
+use Rattle.yrows.specs.Links.{links_of}
 use Rattle.yreasons.specs.Reasons.{place_of}
 use Rattle.yreasons.specs.Trail.{Extends, IsTrail, entry_at, places_of}
 use Rattle.yreasons.proofs.search.come_back.Given as goal

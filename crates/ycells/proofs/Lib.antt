@@ -1,3 +1,0 @@
-pub mod ShiftSteps
-pub mod CandidateSteps
-pub mod SettledSteps

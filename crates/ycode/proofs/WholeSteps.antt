@@ -1,0 +1,103 @@
+-- The arrays of a parser are those of the definition.
+use Rattle.std.proofs.Common.{ℕ, ◌≡◌, ◌+◌, ◌-◌, ◌<◌, ◌∙◌, List, [], length, map, sym, ap, arith}
+use Rattle.std.proofs.Common.{slice_index, slice_index_or}
+use Rattle.std.specs.List.{range_with_len}
+use Rattle.std.proofs.lemmas.List.FromFn.{fill_by_all}
+use Rattle.ysymbols.specs.Grammar.{left_of, body_of}
+use Rattle.ylalr.specs.Collection.{state_of}
+use Rattle.ytables.specs.Tables.{TablesValue}
+use Rattle.ycode.specs.declared.code.Code.{Code}
+use Rattle.ycode.specs.declared.comb.Comb.{Comb}
+use Rattle.ycode.specs.declared.entry.Entry.{Entry}
+use Rattle.ycode.specs.Bits.{SetsValue}
+use Rattle.ycode.specs.Cells.{states_of, tokens_of, symbols_of, rules_of, wanted_at, usual_rule}
+use Rattle.ycode.specs.Cells.{set_number, sets_to, AreCells, AreSets}
+use Rattle.ycode.specs.Entries.{entries_for}
+use Rattle.ycode.specs.Layout.{comb_for}
+use Rattle.ycode.specs.Symbols.{symbol_for}
+use Rattle.ycode.specs.Targets.{AreTargets, usual_targets, goto_entries}
+use Rattle.ycode.specs.Translation.{tokens_for}
+use Rattle.ycode.specs.Whole.{code_for, action_rows, goto_rows, states_in}
+
+module _ (v : TablesValue) (usual sets : List ℕ) (s : SetsValue) (rows : List (List Entry))
+    (cells : AreCells v (states_of v) usual sets s rows) where
+  usual_is : usual ≡ map (usual_rule v) (states_in v)
+  usual_is = fill_by_all (usual_rule v) usual (states_of v) 0 cells.counts.0
+      (λ q l. (cells.rules q l).is)
+
+  sets_are : sets ≡ map (λ q. set_number v (sets_to v (q + 1)) q) (states_in v)
+  sets_are = fill_by_all (λ q. set_number v (sets_to v (q + 1)) q) sets (states_of v) 0
+      cells.counts.1 cells.numbers
+
+  rows_are : rows ≡ action_rows v
+  rows_are = fill_by_all (λ q. entries_for (wanted_at v (usual_rule v q) q) (tokens_of v)) rows
+      (states_of v) [] cells.counts.2 (λ q l. cells.lists q l ∙
+      ap (λ (x : ℕ). entries_for (wanted_at v x q) (tokens_of v)) (cells.rules q l).is)
+
+  module _ (b : AreSets v (states_of v) s) (tu : List ℕ) (trows : List (List Entry))
+      (t : AreTargets v (states_of v) tu trows) (c1 c2 : Comb)
+      (e1 : c1 ≡ comb_for (tokens_of v + 1) rows)
+      (e2 : c2 ≡ comb_for (symbols_of v - tokens_of v) trows) (n r k : ℕ) (en : n ≡ states_of v)
+      (er : r ≡ rules_of v) (ek : k ≡ tokens_of v) (symbols lengths lefts numbers : List ℕ)
+      (se : symbols ≡ map (λ q. symbol_for v.built.grammar.bare (state_of v.built q)) (states_in v))
+      (ll : length lengths ≡ rules_of v) (le : (x : ℕ) → x < rules_of v →
+      slice_index lengths x ≡ length (body_of v.built.grammar.bare x))
+      (fl : length lefts ≡ rules_of v) (fe : (x : ℕ) → x < rules_of v →
+      tokens_of v + slice_index lefts x ≡ left_of v.built.grammar.bare x)
+      (ne : numbers ≡ tokens_for v.built.grammar.numbers) where
+    trows_are : trows ≡ goto_rows v
+    trows_are = fill_by_all (goto_entries v (usual_targets v)) trows (states_of v) [] t.states
+        (λ q l. t.lists q l ∙ ap (λ (u : List ℕ). goto_entries v u q) t.targets)
+
+    actions_are : c1 ≡ comb_for (tokens_of v + 1) (action_rows v)
+    actions_are = e1 ∙ ap (comb_for (tokens_of v + 1)) rows_are
+
+    gotos_are : c2 ≡ comb_for (symbols_of v - tokens_of v) (goto_rows v)
+    gotos_are = e2 ∙ ap (comb_for (symbols_of v - tokens_of v)) trows_are
+
+    bits_are : s.bytes ≡ (sets_to v (states_of v)).bytes
+    bits_are = ap (λ (x : SetsValue). x.bytes) b.are
+
+    lengths_are : lengths ≡ map (λ x. length (body_of v.built.grammar.bare x))
+        (range_with_len 0 (rules_of v))
+    lengths_are = fill_by_all (λ x. length (body_of v.built.grammar.bare x)) lengths (rules_of v) 0
+        ll le
+
+    lefts_are : lefts ≡ map (λ x. left_of v.built.grammar.bare x - tokens_of v)
+        (range_with_len 0 (rules_of v))
+    lefts_are = fill_by_all (λ x. left_of v.built.grammar.bare x - tokens_of v) lefts (rules_of v) 0
+        fl (λ x l. (let e = fe x l in omega (arith, e)))
+
+    pub code_is : record {
+      states = n;
+      rules = r;
+      tokens = k;
+      actions = c1;
+      usual = usual;
+      sets = sets;
+      span = s.span;
+      bits = s.bytes;
+      gotos = c2;
+      targets = tu;
+      symbols = symbols;
+      lengths = lengths;
+      lefts = lefts;
+      numbers = numbers;
+    } ≡ code_for v
+    unfolding code_for
+    code_is = λ i. record {
+      states = en i;
+      rules = er i;
+      tokens = ek i;
+      actions = actions_are i;
+      usual = usual_is i;
+      sets = sets_are i;
+      span = b.span i;
+      bits = bits_are i;
+      gotos = gotos_are i;
+      targets = t.targets i;
+      symbols = se i;
+      lengths = lengths_are i;
+      lefts = lefts_are i;
+      numbers = ne i;
+    }

@@ -1,3 +1,0 @@
-pub mod Verdict
-pub mod Sentences
-pub mod Judge

@@ -1,0 +1,141 @@
+//! A changed grammar as the text of a grammar file, without actions.
+
+use std::io::{self, Write};
+use yexplain::lines::{Lines, is_inner};
+use yexplain::reads::{body_of, left_of, level_of, name_of};
+use ylalr::{ERROR, token_count};
+use ysymbols::{Associativity, Grammar, Sym};
+
+/// Writes a name after a space.
+fn put_name<W: Write>(out: &mut W, grammar: &Grammar, symbol: Sym) -> io::Result<()> {
+    out.write_all(b" ")?;
+    out.write_all(name_of(grammar, symbol))
+}
+
+/// Writes the tokens of a level.
+fn put_level<W: Write>(out: &mut W, grammar: &Grammar, level: usize) -> io::Result<()> {
+    let mut is_begun = false;
+    for token in ERROR..token_count(grammar) {
+        match level_of(grammar, token) {
+            Some(it) if it.level == level => {
+                if !is_begun {
+                    let directive = match it.kind {
+                        Associativity::Left => "%left",
+                        Associativity::Right => "%right",
+                        Associativity::Nonassoc => "%nonassoc",
+                    };
+                    out.write_all(directive.as_bytes())?;
+                    is_begun = true;
+                }
+                put_name(out, grammar, token)?;
+            }
+            _ => {}
+        }
+    }
+    writeln!(out)
+}
+
+/// Writes the declarations: the tokens that have names, not literals, and no precedence; those of
+/// each level; the start symbol.
+fn put_declarations<W: Write>(out: &mut W, grammar: &Grammar) -> io::Result<()> {
+    let mut last: usize = 0;
+    for token in ERROR..token_count(grammar) {
+        if let Some(it) = level_of(grammar, token) {
+            last = last.max(it.level);
+        } else if token > ERROR && !name_of(grammar, token).starts_with(b"'") {
+            out.write_all(b"%token")?;
+            put_name(out, grammar, token)?;
+            writeln!(out)?;
+        }
+    }
+    for level in 1..last.saturating_add(1) {
+        put_level(out, grammar, level)?;
+    }
+    if let Some(start) = body_of(grammar, 0).first() {
+        out.write_all(b"%start")?;
+        put_name(out, grammar, *start)?;
+    }
+    Ok(())
+}
+
+/// A change of a grammar.
+#[derive(Clone, Copy, Drop, PartialEq, Eq)]
+pub enum Change {
+    /// Without this rule.
+    Without(usize),
+    /// With a copy of a nonterminal, which has the same rules, in its place in the body of a rule.
+    Copied {
+        /// The nonterminal.
+        symbol: Sym,
+        /// The rule.
+        rule: usize,
+    },
+}
+
+/// A grammar, where its rules stand, and what is changed.
+#[derive(Clone, Copy)]
+pub struct Changed<'a> {
+    /// The grammar.
+    pub grammar: &'a Grammar,
+    /// Where its rules stand.
+    pub lines: &'a Lines,
+    /// The change.
+    pub change: Change,
+}
+
+/// What follows the name of a nonterminal in that of its copy.
+const COPY: &[u8] = b".copy";
+
+impl Changed<'_> {
+    /// Writes a rule, with this after the name of its left side, and the token that gives it a
+    /// precedence. An action stands for each symbol of the body that was made for one.
+    fn put_rule<W: Write>(self, out: &mut W, rule: usize, after: &[u8]) -> io::Result<()> {
+        let (grammar, body) = (self.grammar, body_of(self.grammar, rule));
+        out.write_all(name_of(grammar, left_of(grammar, rule).unwrap_or(0)))?;
+        out.write_all(after)?;
+        out.write_all(b" :")?;
+        let mut is_last_action = false;
+        for symbol in body {
+            let symbol = *symbol;
+            is_last_action = name_of(grammar, symbol).starts_with(b"$$");
+            if is_last_action {
+                out.write_all(b" {}")?;
+            } else {
+                put_name(out, grammar, symbol)?;
+                if self.change == (Change::Copied { symbol, rule }) {
+                    out.write_all(COPY)?;
+                }
+            }
+        }
+        if is_last_action {
+            // an action at the end would be that of the rule
+            out.write_all(b" {}")?;
+        }
+        if let Some(giver) = self.lines.giver(grammar, rule) {
+            out.write_all(b" %prec")?;
+            put_name(out, grammar, giver)?;
+        }
+        out.write_all(b" ;\n")
+    }
+
+    /// Writes the grammar, and after it the rules of a copy, which are those of its nonterminal.
+    pub fn put<W: Write>(self, out: &mut W) -> io::Result<()> {
+        let (grammar, change) = (self.grammar, self.change);
+        put_declarations(out, grammar)?;
+        out.write_all(b"\n%%\n")?;
+        for rule in 1..grammar.rules() {
+            if change != Change::Without(rule) && !is_inner(grammar, rule) {
+                self.put_rule(out, rule, b"")?;
+            }
+        }
+        if let Change::Copied { symbol, .. } = change {
+            for rule in 1..grammar.rules() {
+                if left_of(grammar, rule) == Some(symbol) {
+                    let change = Change::Without(rule);
+                    Changed { change, ..self }.put_rule(out, rule, COPY)?;
+                }
+            }
+        }
+        Ok(())
+    }
+}

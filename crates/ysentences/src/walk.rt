@@ -1,0 +1,86 @@
+//! Whole parses, one after the other: what was used of tables, and what never was.
+
+use crate::cells::Cells;
+use crate::elements::{Elements, Kind};
+use crate::uses::Uses;
+use std::alloc::Global;
+use std::io::{self, ErrorKind, Write};
+use yinput::language::Input;
+use yinput::session_of;
+use yparse::Tokens;
+use ysearch::trial::Pace;
+use ytables::Tables;
+
+/// The most steps of a parse, which are as many as may stand.
+const MOST_STEPS: usize = 1_000_000;
+
+/// All kinds, in the order in which they are written.
+const KINDS: [Kind; 3] = [Kind::Rules, Kind::States, Kind::Cells];
+
+/// What parses by tables have used.
+#[derive(Drop)]
+pub struct Walked {
+    /// The tables.
+    pub tables: Tables,
+    /// Their filled cells.
+    pub cells: Cells,
+    /// What was used.
+    pub uses: Uses,
+}
+
+/// What parses over these inputs use, each up to its end, also through errors.
+pub fn walk_all(alloc: Global, tables: Tables, inputs: &[Input]) -> io::Result<Walked> {
+    let cells = Cells::new(alloc, &tables)?;
+    let mut uses = Uses::new(alloc, &tables, &cells)?;
+    let mut tables = tables;
+    for input in inputs {
+        let symbols = Vec::from_slice(alloc, &input.tokens.symbols)?;
+        let Some(session) = session_of(alloc, tables, Tokens { symbols }) else {
+            // can't be, since each token is one of the tables
+            return Err(io::Error::from(ErrorKind::Other));
+        };
+        let (mut session, mut pace) = (session, Pace::new(MOST_STEPS, MOST_STEPS));
+        for _ in 0..MOST_STEPS {
+            if uses.step(&mut session, &cells, &mut pace)?.is_none() {
+                break;
+            }
+        }
+        tables = session.into_tables();
+    }
+    Ok(Walked {
+        tables,
+        cells,
+        uses,
+    })
+}
+
+/// Writes how many of each kind were used.
+fn put_counts<W: Write>(out: &mut W, uses: &Uses) -> io::Result<()> {
+    for (place, kind) in KINDS.iter().enumerate() {
+        let rounds = uses.rounds(*kind).get(kind.first()..).unwrap_or(&[]);
+        let mut used: usize = 0;
+        for round in rounds {
+            used = used.saturating_add(usize::from(*round > 0));
+        }
+        let front = if place > 0 { ", " } else { "" };
+        let (word, all) = (kind.word(0), rounds.len());
+        write!(out, "{front}{word} {used} of {all}")?;
+    }
+    writeln!(out)
+}
+
+/// Writes what was used, and a line for each element that never was, and says whether all was.
+pub fn put_report<W: Write>(out: &mut W, elements: Elements<'_>, uses: &Uses) -> io::Result<bool> {
+    put_counts(out, uses)?;
+    let mut is_all = true;
+    for kind in &KINDS {
+        for (number, round) in uses.rounds(*kind).iter().enumerate() {
+            if *round == 0 && number >= kind.first() {
+                is_all = false;
+                write!(out, "not used: ")?;
+                elements.put_line(out, *kind, number)?;
+            }
+        }
+    }
+    Ok(is_all)
+}

@@ -1,4 +1,0 @@
-pub mod LinkSteps
-pub mod OrderSteps
-pub mod Spreading
-pub mod WaitingSteps

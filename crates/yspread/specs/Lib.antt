@@ -1,4 +1,0 @@
-pub mod Links
-pub mod Order
-pub mod Spread
-pub mod Waiting
