@@ -5,7 +5,7 @@ use std::io::{self, Write};
 use yfiles::diagnostic::Diagnostic;
 use yfiles::place::Place;
 use yfiles::steady::Steady;
-use youtput::Output;
+use yfiles::output::Output;
 use yskeleton::Misuse;
 
 /// How the program ends.

@@ -23,7 +23,7 @@ use std::process::ExitCode;
 use yexplain::text::Escaped;
 use yfaults::opening::grammar_bytes;
 use yfiles::arguments::{Arguments, arguments_of};
-use youtput::Output;
+use yfiles::output::Output;
 use yparts::options::{Options, Purity};
 
 /// Sets the variables that words have, each with a zero after it. Braces or quotes around a value

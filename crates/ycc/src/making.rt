@@ -9,7 +9,7 @@ use std::alloc::Global;
 use ycode::code_of;
 use yfiles::same::clash_of;
 use yfiles::writing::write_over;
-use youtput::Output;
+use yfiles::output::Output;
 use yparts::options::{Header, Options};
 use yskeleton::{Mode, Numbering, Skeleton, Trouble, Wishes, default_rules, style_of};
 use ytables::{Link, Tables};

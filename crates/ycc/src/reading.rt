@@ -11,7 +11,7 @@ use ygrammar::{Grammar, Mapped, Mark, read_mapped};
 use yimport::import::Imported;
 use yimport::symbols::Expected;
 use ylalr::build;
-use youtput::Output;
+use yfiles::output::Output;
 use yparts::parts::Parts;
 use yparts::refusal::{Refusal, Trouble as Unmade};
 use yparts::{foreign, native};

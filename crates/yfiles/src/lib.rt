@@ -3,14 +3,15 @@
 //!
 //! `place` counts lines and columns, and shows the text of a place. `diagnostic` has what is said,
 //! as values, and writes it for people. `reading` reads files and says which are too long, `same`
-//! tells whether an output is an input or
-//! another output, and `writing` writes a text beside its file and renames it when it is complete.
-//! `steady` has a writer whose failure doesn't end the work, and `arguments` the arguments of a
-//! program.
+//! tells whether an output is an input or another output. `output` has a text in memory, which
+//! remembers its first fault, so that no writer asks after a piece; `writing` writes a text beside
+//! its file and renames it when it is complete. `steady` has a writer whose failure doesn't end the
+//! work, and `arguments` the arguments of a program.
 #![tactic(auto)]
 
 pub mod arguments;
 pub mod diagnostic;
+pub mod output;
 pub mod place;
 pub mod reading;
 pub mod same;

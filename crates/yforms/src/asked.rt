@@ -17,7 +17,7 @@ use yinput::language::LanguageFiles;
 use ymessages::run as messages;
 use ypage::page;
 use ypage::walk::Part;
-use yrules::run as rules;
+use yskeleton::rules;
 use ysentences::run as sentences;
 
 /// What words ask for.

@@ -17,7 +17,7 @@ use yinput::language::LanguageFiles;
 use yinput::source::Source;
 use ymessages::run::run_errors;
 use ypage::page::run_page;
-use yrules::run::run_rules;
+use yskeleton::rules::run_rules;
 use ysentences::run::run_sentences;
 
 /// What a command line makes of words. Help or the version that they ask for is written.

@@ -3,7 +3,7 @@
 use crate::references::{Dialect, Piece, Reference, Whose, piece_at};
 use crate::scene::{Member, Misuse, Scene};
 use std::alloc::AllocError;
-use youtput::Output;
+use yfiles::output::Output;
 use yparts::parts;
 
 /// What ends the writing of a parser.

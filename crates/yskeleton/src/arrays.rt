@@ -1,6 +1,6 @@
 //! Arrays of numbers in C, each of the smallest type that holds its numbers.
 
-use youtput::Output;
+use yfiles::output::Output;
 
 /// How many numbers a line has.
 pub const IN_A_LINE: usize = 16;

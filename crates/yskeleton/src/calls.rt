@@ -1,7 +1,7 @@
 //! How the functions of a parser are declared and called, with their parameters.
 
 use crate::skeleton::Skeleton;
-use youtput::Output;
+use yfiles::output::Output;
 use yparts::options::Purity;
 use yparts::params::{is_comment, piece_length};
 use yparts::parts::{Param, Taker};

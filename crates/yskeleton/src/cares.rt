@@ -5,8 +5,8 @@ use crate::errors::SWITCH;
 use crate::references::{Piece, piece_at};
 use crate::skeleton::Skeleton;
 use yexplain::reads::{left_of, name_of};
+use yfiles::output::Output;
 use ylalr::{END, ERROR};
-use youtput::Output;
 use yparts::parts::{Action, Care, Deed, Taker, Whose};
 use ysymbols::Sym;
 

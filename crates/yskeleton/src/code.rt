@@ -4,7 +4,7 @@ use crate::actions::{Trouble, put_action};
 use crate::scene::Scene;
 use crate::skeleton::Skeleton;
 use crate::strings::{Escaped, put_string};
-use youtput::Output;
+use yfiles::output::Output;
 use yparts::parts::{Piece, Target};
 
 impl<'a> Skeleton<'a> {

@@ -4,8 +4,8 @@
 use crate::numbering::number_of;
 use crate::skeleton::Skeleton;
 use yexplain::reads::name_of;
+use yfiles::output::Output;
 use ylalr::{ERROR, token_count};
-use youtput::Output;
 use yparts::options::Values;
 use yparts::parts::Target;
 use ysymbols::{Grammar, Sym};

@@ -1,4 +1,5 @@
-//! The texts of a parser in C and of its header.
+//! The texts of a parser in C and of its header; and names for the rules of a grammar, for programs
+//! that parse by its table.
 //!
 //! `words`, `machine` and `errors` have the fixed texts, which read the arrays of `ycode` as its
 //! definitions say, with conditions that `template` knows; `tables` writes the arrays, `numbering`
@@ -8,6 +9,11 @@
 //! stand, `actions` writes them, and `code` what the file has; `declared` has tokens and types,
 //! `calls` functions with their parameters, `cares` what is done with values. `parser` puts all
 //! together for a `skeleton`.
+//!
+//! `rule_comments` finds the comments among the rules of an open file, `rule_given` the names that
+//! they give, `rule_stems` has what each alternative is called, `rule_names` the names of all rules,
+//! and `rule_refusal` why there are none. `rule_list`, `rule_header` and `rule_module` write a
+//! `rule_sheet` of all of it, and `rules` is the command.
 #![tactic(auto)]
 
 mod actions;
@@ -22,6 +28,16 @@ mod machine;
 mod numbering;
 mod parser;
 mod references;
+mod rule_comments;
+mod rule_given;
+mod rule_header;
+mod rule_list;
+mod rule_module;
+mod rule_names;
+mod rule_refusal;
+mod rule_sheet;
+mod rule_stems;
+pub mod rules;
 mod scene;
 mod skeleton;
 mod spoken;

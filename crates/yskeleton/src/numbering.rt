@@ -5,8 +5,8 @@ use crate::arrays::put_array;
 use std::alloc::Global;
 use ycode::Code;
 use yexplain::reads::Made;
+use yfiles::output::Output;
 use ylalr::{ERROR, token_count};
-use youtput::Output;
 use yparts::parts::Parts;
 use ysymbols::{Grammar, Sym};
 

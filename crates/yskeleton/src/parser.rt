@@ -9,7 +9,7 @@ use crate::tables::READING;
 use crate::words::{FRONT, INCLUDES, WORDS};
 use std::alloc::Global;
 use yexplain::reads::Made;
-use youtput::Output;
+use yfiles::output::Output;
 use yparts::options::Purity;
 use yparts::parts::{Deed, Target};
 

@@ -5,7 +5,7 @@ use crate::arrays::put_array;
 use crate::strings::{Escaped, put_string};
 use std::alloc::Global;
 use yexplain::reads::Made;
-use youtput::Output;
+use yfiles::output::Output;
 
 /// The most bytes of a text in one piece: so no string is longer than C90 promises to take.
 const MOST_BYTES: usize = 100;

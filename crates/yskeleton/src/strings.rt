@@ -1,6 +1,6 @@
 //! Texts within strings of C.
 
-use youtput::Output;
+use yfiles::output::Output;
 
 /// What of a text is escaped.
 #[derive(Clone, Copy, PartialEq, Eq)]

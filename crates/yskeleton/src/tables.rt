@@ -6,8 +6,8 @@ use crate::skeleton::Skeleton;
 use crate::strings::{Escaped, put_string};
 use std::alloc::Global;
 use yexplain::reads::{Made, body_of, left_of, name_of};
+use yfiles::output::Output;
 use ylalr::{ERROR, token_count};
-use youtput::Output;
 use yparts::options::Errors;
 use ysymbols::Sym;
 

@@ -5,7 +5,7 @@
 //! condition and a space a part stands that is the rest of its line.
 
 use crate::style::Style;
-use youtput::Output;
+use yfiles::output::Output;
 
 impl Style<'_> {
     /// Writes a text, of which each line has its newline, without the parts whose conditions don't

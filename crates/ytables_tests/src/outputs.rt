@@ -2,7 +2,7 @@
 
 use std::test::Fail;
 use testkit::devices::{Counted, Refusal, Sink};
-use youtput::Output;
+use yfiles::output::Output;
 
 #[test]
 fn a_text_has_what_is_written(rt: HostRuntime) -> Result<(), Fail> {

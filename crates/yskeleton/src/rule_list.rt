@@ -1,10 +1,10 @@
 //! The list for people.
 
-use crate::sheet::Sheet;
+use crate::rule_sheet::Sheet;
 use std::alloc::Global;
 use std::io::{self, Write};
 use yexplain::text::RuleText;
-use youtput::Output;
+use yfiles::output::Output;
 
 /// Writes the number, the name, the text and the line of a rule.
 fn put_rule(out: &mut Output, sheet: Sheet<'_>, rule: usize) {

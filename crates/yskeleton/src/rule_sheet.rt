@@ -1,11 +1,11 @@
 //! What is written of a grammar: its rules and tokens by their names, and the digest of its table.
 
-use crate::names::Names;
+use crate::rule_names::Names;
+use crate::{CToken, in_c};
 use std::alloc::Global;
 use yexplain::lines::Lines;
 use yexplain::reads::Made;
 use ylalr::token_count;
-use yskeleton::{CToken, in_c};
 use ysymbols::Grammar;
 
 /// The rules of a grammar and their names, its tokens that have names in C, and the digest of its

@@ -1,9 +1,9 @@
 //! The names that comments give to alternatives, as `/* name: add */` does.
 
-use crate::comments::Comment;
-use crate::refusal::{Refusal, Trouble, Why};
+use crate::is_c_name;
+use crate::rule_comments::Comment;
+use crate::rule_refusal::{Refusal, Trouble, Why};
 use std::alloc::Global;
-use yskeleton::is_c_name;
 
 /// A name that a comment gives to an alternative.
 #[derive(Clone, Copy)]

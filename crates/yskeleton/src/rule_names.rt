@@ -1,11 +1,11 @@
 //! The names of all rules.
 
-use crate::refusal::{Refusal, Trouble, Why};
-use crate::stems::Stem;
+use crate::rule_refusal::{Refusal, Trouble, Why};
+use crate::rule_stems::Stem;
 use std::alloc::Global;
 use yexplain::lines::is_inner;
 use yexplain::reads::Made;
-use youtput::Output;
+use yfiles::output::Output;
 use ysymbols::Grammar;
 use ysymbols::names::{SymbolTable, intern, number_in};
 

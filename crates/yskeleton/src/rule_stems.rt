@@ -1,12 +1,12 @@
 //! What alternatives are called: by the name that a comment gives, or by the left side and the
 //! place among the alternatives of that.
 
-use crate::comments::begun_by;
-use crate::given::{Given, given_to};
+use crate::rule_comments::begun_by;
+use crate::rule_given::{Given, given_to};
 use std::alloc::Global;
 use yexplain::lines::{Site, is_inner};
 use yexplain::reads::{Made, left_of, name_of};
-use youtput::Output;
+use yfiles::output::Output;
 use ysymbols::Grammar;
 
 /// What an alternative is called.

@@ -1,8 +1,8 @@
 //! The header in C.
 
-use crate::sheet::Sheet;
+use crate::rule_sheet::Sheet;
 use yexplain::text::RuleText;
-use youtput::Output;
+use yfiles::output::Output;
 
 /// The first line.
 const ABOUT: &str = "/* Names for the numbers of a table of yacc: ydebug rules made them. */";

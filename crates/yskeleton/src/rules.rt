@@ -1,23 +1,23 @@
 //! `ydebug rules`.
 
-use crate::comments::comments_of;
-use crate::given::given_in;
-use crate::header::put_header;
-use crate::list::put_list;
-use crate::names::{Names, names_of};
-use crate::python::put_module;
-use crate::refusal::Trouble;
-use crate::sheet::{Sheet, tokens_of};
-use crate::stems::stems_of;
+use crate::rule_comments::comments_of;
+use crate::rule_given::given_in;
+use crate::rule_header::put_header;
+use crate::rule_list::put_list;
+use crate::rule_module::put_module;
+use crate::rule_names::{Names, names_of};
+use crate::rule_refusal::Trouble;
+use crate::rule_sheet::{Sheet, tokens_of};
+use crate::rule_stems::stems_of;
 use std::alloc::Global;
 use std::io::{self, ErrorKind, Write};
 use std::rt::Files;
 use yexplain::reads::grammar_of;
 use yfaults::opening::Opened;
+use yfiles::output::Output;
 use yfiles::same::refused_outputs;
 use yfiles::writing::put_asked;
 use yinput::grammars::{GrammarFile, GrammarText, open_with_text};
-use youtput::Output;
 use yview::digest::digest_of;
 
 /// What is asked for: the names of the rules of a grammar file, in a header, in a module, or where
