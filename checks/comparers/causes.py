@@ -7,7 +7,7 @@ from checks.shared.tables import Tables
 
 CHANGE = re.compile(r"  (\d+) (?:of (\d+) conflicts goe?s?|more) when (.*)")
 LINES = re.compile(r"(.*) (?:get precedence lines|gets a precedence line)")
-OWN = re.compile(r"rule (\d+) (?:\(line \d+\) )?a name of its own by %prec")
+OWN = re.compile(r"rule (\d+) (?:\(line \d+\) )?a precedence of its own by %prec")
 PAIR = re.compile(
     r"  (\d+) of (\d+) conflicts stands? between rule (\d+)[^,]*, which is taken, and rule (\d+)"
 )
@@ -132,8 +132,8 @@ def wrong_causes(checked, text):
     head = text.split("\n\n")[0]
     changes, pairs = CHANGE.findall(head), PAIR.findall(head)
     total = counted(checked.tables)
-    if "kinds\n" not in head + "\n":
-        return "causes of one kind" if changes or pairs else None
+    if "groups\n" not in head + "\n":
+        return "causes of one group" if changes or pairs else None
     return (
         wrong_changes(checked.grammar, changes, total)
         or wrong_pairs(checked, pairs, total)

@@ -125,7 +125,7 @@ class Checked:
 
 
 COUNTS = re.compile(r"grammar\.y: (\d+) shift/reduce, (\d+) reduce/reduce, in ")
-UNSOUGHT = re.compile(r"(?m)^(\d+) kinds? more; the search for ")
+UNSOUGHT = re.compile(r"(?m)^(\d+) groups? more; the search for ")
 UNSOUGHT_CELL = re.compile(r"(?m)^state (\d+) on (\S+): (?:shift|accept|reduce)")
 HEAD = re.compile(WARNED + r"conflict \d+: state (\d+) on (\S+): (shift|accept|reduce)")
 
@@ -280,7 +280,7 @@ def wrong_kinds(checked, parts, text):
     of these the other states aren't told."""
     names, unsought = checked.grammar.names, UNSOUGHT.search(text)
     cells = [(int(state), names.index(token)) for state, token in UNSOUGHT_CELL.findall(text)]
-    counts = re.search(r"in (\d+) cells? of (\d+) kinds?", text)
+    counts = re.search(r"in (\d+) table entr(?:y|ies) of (\d+) groups?", text)
     told = [int(it) for it in counts.groups()] if counts else [0, 0]
     sizes = [1 + len(others_in(part, names)) for part in parts]
     listed = sum(map(mul, sizes, map(states_in, parts))) + len(cells)
@@ -299,7 +299,7 @@ def differences(grammar, text):
         wrong = difference(checked, part)
         if wrong:
             return f"{wrong}:\n" + "\n".join(part)
-    lost = {int(it) for it in re.findall(r"rule (\d+) is never reduced", text)}
+    lost = {int(it) for it in re.findall(r"rule (\d+) is useless in the parser", text)}
     if lost != checked.lost():
         return f"rules never reduced: {sorted(lost)} for {sorted(checked.lost())}"
     return (
@@ -328,7 +328,7 @@ COUNTED = {
     "missed by a parse": ("settled otherwise", "given up"),
     "of these after an error": (AFTER_ERROR,),
     "of these with another list": ("  Over these",),
-    "rules never reduced": ("is never reduced",),
+    "useless rules": ("is useless in the parser",),
 }
 
 

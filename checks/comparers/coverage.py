@@ -24,7 +24,7 @@ from checks.shared.running import ran, turns
 from checks.shared.sentences import reached
 from checks.shared.tally import Tally
 
-KINDS = {"rules": "rules", "states": "states", "actions": "cells"}
+KINDS = {"rules": "rules", "states": "states", "actions": "actions"}
 MOST_STEPS, MOST_STACKS, MOST_TOKENS, MOST_NAMED = 20_000, 2_000, 7, 20
 
 
@@ -36,7 +36,7 @@ class Uses:
 
     def of(self, kind):
         """The parts of a kind."""
-        return {"rules": self.rules, "states": self.states, "cells": self.cells}[kind]
+        return {"rules": self.rules, "states": self.states, "actions": self.cells}[kind]
 
     def add(self, other):
         """Adds what others use."""
@@ -171,7 +171,7 @@ class Machine:
 
     def short(self, kind, part):
         """A part in a list."""
-        if kind != "cells":
+        if kind != "actions":
             return str(part)
         state, token = part
         return f"{state} on {self.grammar.names[token] if token >= 0 else 'every token'}"
@@ -237,20 +237,20 @@ def wrong_sentences(machine, kind, lists):
 PART = {
     "rules": r": rule (\d+)(?: \(line \d+\))?  ",
     "states": r": state (\d+)(?:  |$)",
-    "cells": r": state (\d+) on (.*?): (?:shift|accept|reduce)",
+    "actions": r": state (\d+) on (.*?): (?:shift|accept|reduce)",
 }
 WITH_ERROR = "# not found, as the shortest sentence has error, or more than 5000 tokens"
 IMPOSSIBLE = (
     WITH_ERROR,
     "# not found, as its left side can't be reached",
-    "# not found, as no cell reduces by it",
+    "# not found, as no state reduces by it",
 )
 
 
 def part_in(machine, kind, line):
     """The part that a line names."""
     found = re.search(PART[kind], line)
-    if kind != "cells":
+    if kind != "actions":
         return int(found[1])
     token = -1 if found[2] == "every token" else machine.grammar.names.index(found[2])
     return int(found[1]), token

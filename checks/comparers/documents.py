@@ -26,12 +26,12 @@ from checks.shared.tally import Tally
 
 VERSION = 1
 COUNTS = re.compile(
-    r"grammar\.y: (\d+) shift/reduce, (\d+) reduce/reduce, in (\d+) cells? of (\d+) kinds?"
+    r"grammar\.y: (\d+) shift/reduce, (\d+) reduce/reduce, in (\d+) table entr(?:y|ies) of (\d+) groups?"
 )
 REDUCE = re.compile(r"  reduce  rule (\d+) (?:\(line (\d+)\))? *(.*)")
 WARNING = re.compile(r"grammar\.y(?::(\d+))?(?::(\d+))?: warning: (?!conflict \d)(.*)")
 STATES = re.compile(r"  The same in (\d+) states, the last of them (\d+)\.")
-MORE = re.compile(r"(?m)^\d+ kinds? more[;,]")
+MORE = re.compile(r"(?m)^\d+ groups? more[;,]")
 NUMBER = re.compile(WARNED + r"conflict (\d+): ")
 PLACE = re.compile(r"grammar\.y:(\d+):(\d+): ")
 # Further tokens of a block, which stand on the lines after this one.
@@ -40,14 +40,14 @@ TOKEN = re.compile(r"'.[^']*'|\S+")
 WORDS = {"shift": "shift", "accept": "shift", "reduce": "reduce"}
 # Warnings about a symbol, and what is said of a rule.
 SYMBOL = re.compile(
-    r"(?:the precedence of |the token )?('.[^']*'|\S+)"
-    r" (?:settles nothing|is declared and used nowhere|can't be reached from the start)"
+    r"(?:useless precedence for |token |useless (?:token|nonterminal) )('.[^']*'|[^\s:]+)"
+    r"(?: is declared but never used|: it can't be reached from the start symbol|$)"
 )
 LEFT_SIDE = re.compile(
-    r"(?:rule \d+ is never reduced, since it lost every cell:  |.* conflict on .*?, not rule \d+ \()"
+    r"(?:rule \d+ is useless in the parser due to conflicts:  |.* conflict on .*?, not rule \d+ \()"
     r"(\S+): .*"
 )
-IDLE = re.compile(r"the %prec of rule \d+ (?:settles|may settle) nothing")
+IDLE = re.compile(r"useless %prec in rule \d+|%prec in rule \d+ may be useless")
 # What rules begin with, where the left side isn't told.
 SOME_RULE = r"[A-Za-z_.][\w.]*(?:\[\w+\])?\s*:|\|"
 FOREIGN = re.compile(r"foreign\.y:(\d+)(?::(\d+))?: \w+: (.*)")

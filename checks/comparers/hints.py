@@ -26,9 +26,9 @@ RIVAL = re.compile(r"  reduce  rule (\d+)")
 FURTHER = re.compile(r"  Also on ")
 SAME = re.compile(r"  The same on ")
 IDLE_TOKEN = re.compile(
-    r"\S+?:(\d+):\d+: warning: the precedence of (\S+) settles nothing"
+    r"\S+?:(\d+):\d+: warning: useless precedence for (\S+)"
 )
-IDLE_RULE = re.compile(WARNED + r"the %prec of rule (\d+) settles nothing")
+IDLE_RULE = re.compile(WARNED + r"useless %prec in rule (\d+)")
 
 
 class Trial:

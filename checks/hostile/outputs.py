@@ -220,10 +220,10 @@ def spent(count, programs):
     inputs = {"dense.y": dense(count, count).encode()}
     it = scenario(["ydebug", "conflicts", "dense.y"], inputs)
     text = run(it, programs)["stdout"].decode()
-    kinds = re.match(r"dense.y: .* of (\d+) kinds\n", text)
+    kinds = re.match(r"dense.y: .* of (\d+) groups\n", text)
     told = len(re.findall(rf"^{WARNED}conflict \d+: ", text, re.M))
     told += sum(map(int, re.findall(r"^  (?:The same|Also) on (\d+) other tokens?,", text, re.M)))
-    rest = r"^(\d+) kinds more; the search for their lists of tokens would take too long:$"
+    rest = r"^(\d+) groups more; the search for their lists of tokens would take too long:$"
     more = re.search(rest, text, re.M)
     counted = kinds and more and told + int(more[1]) == int(kinds[1])
     differs = [] if counted else [f"{told} told; {kinds and kinds[0]}{more and more[0]}\n"]

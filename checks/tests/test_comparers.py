@@ -111,9 +111,9 @@ class Conflicts(Planted):
         report, look = self.look("a-list-for-each-rule")
         pairs = [("tokens  C A . B", "tokens  C A A . B"), ("tokens  C A . B", "tokens  C A . E")]
         pairs += [("A parse comes to", "A parse over them misses"), ("shift, to", "reduce, to")]
-        pairs += [("2 shift/reduce, 1 reduce", "1 shift/reduce, 2 reduce"), ("2 cells", "3 cells")]
-        pairs += [("2 kinds", "1 kinds"), ("state 4 on E", "state 4 on B")]
-        pairs += [("rule 10 is never reduced", "rule 9 is never reduced")]
+        pairs += [("2 shift/reduce, 1 reduce", "1 shift/reduce, 2 reduce"), ("2 table", "3 table")]
+        pairs += [("2 groups", "1 groups"), ("state 4 on E", "state 4 on B")]
+        pairs += [("rule 10 is useless", "rule 9 is useless")]
         pairs += [("state 1  rule 3", "state 2  rule 3"), ("state 2  rule 6", "state 2  rule 7")]
         pairs += [("    state 2  rule 7 (line 11)  q: . y B\n", ""), ("after rule 10", "after rule 9")]
         pairs += [("1 of 3 conflicts goes", "2 of 3 conflicts go"), ("A and B get", "A and E get")]
@@ -168,7 +168,7 @@ class Conflicts(Planted):
         report, look = self.look("dangling-else")
         longer = report.replace("IF ID IF ID ID ';' .", "IF ID IF ID IF ID ID ';' .")
         none = "grammar.y: no conflicts\n"
-        self.each_caught(look, report, longer, none, report.replace("in 1 cell of 1 kind", ""))
+        self.each_caught(look, report, longer, none, report.replace("in 1 table entry of 1 group", ""))
 
 
 class Documents(Planted):
@@ -196,7 +196,7 @@ class Documents(Planted):
         pairs += [('"line":14,"column":1', '"line":15,"column":1'), ('"column":1,', '"column":2,')]
         pairs += [('"tokens":["C","A"]', '"tokens":["C"]'), ('"rules":[9]', '"rules":[10]')]
         pairs += [('"both":false', '"both":true'), ('"version":1', '"version":2')]
-        pairs += [("is never reduced", "is never used"), ('"form":"conflicts"', '"form":"check"')]
+        pairs += [("is useless in", "is idle in"), ('"form":"conflicts"', '"form":"check"')]
         self.each_caught(self.look, self.document, *changed(self.document, *pairs))
 
     def test_lines(self):
@@ -209,14 +209,14 @@ class Documents(Planted):
     def test_places(self):
         """A place where something else stands, one that lacks, and that of another conflict."""
         source = b"%token A '+'\n%%\ns : A { x } A\n  | s '+'\n  ;\n"
-        lost = "is never reduced, since it lost every cell:  "
+        lost = "is useless in the parser due to conflicts:  "
         for message, line, column in (
-            ("the token A is declared and used nowhere", 1, 8),
-            ("'\\053' can't be reached from the start", 1, 10),
+            ("token A is declared but never used", 1, 8),
+            ("useless token '\\053': it can't be reached from the start symbol", 1, 10),
             (f"rule 1 {lost}$$1: (empty)", 3, 7),
             ("shift/reduce conflict on ',' in state 1: the shift is taken, not rule 3 (s: s)", 4, 3),
             (f"rule 3 {lost}s: s '+'", 4, 3),
-            ("the %prec of rule 2 settles nothing", 3, 1),
+            ("useless %prec in rule 2", 3, 1),
         ):
             told = {"message": message, "line": line}
             look = lambda it: documents.wrong_spots(source, [told | {"column": it}])
@@ -292,9 +292,9 @@ class Hints(Planted):
 
     def test_warnings(self):
         """A precedence that settles nothing, and one that does."""
-        warning = "grammar.y:2:7: warning: the precedence of A settles nothing"
+        warning = "grammar.y:2:7: warning: useless precedence for A"
         self.draw.levels, self.draw.precedences = [("left", ["B"])], {"B": (1, "left")}
-        idle = warning.replace("of A", "of B")
+        idle = warning.replace("for A", "for B")
         self.assertEqual([it[2] for it in hints.judged(self.draw, idle)], [True])
         self.draw.levels, self.draw.precedences = [("left", ["A"])], {"A": (1, "left")}
         self.assertEqual([it[2] for it in hints.judged(self.draw, warning)], [False])
@@ -553,14 +553,14 @@ class Coverage(Planted):
         pairs = [("NUM '+' NUM", "NUM NUM"), ("rules 1, 3", "rules 1, 2"), ("all 5", "all 6")]
         pairs += [("2 sentences", "3 sentences"), ("sentence 2, the first", "sentence 3, the first")]
         spare = f"# sentence 1, the first to use rules 1, 3, 4\nNAME '=' NUM\n{text}"
-        lost = f"# not found, as no cell reduces by it: rule 2 (line 4)  list: list ';' set\n{text}"
+        lost = f"# not found, as no state reduces by it: rule 2 (line 4)  list: list ';' set\n{text}"
         look = lambda it: coverage.differences(machine, "rules", it)
         self.each_caught(look, text, *changed(text, *pairs), spare, lost)
 
     def test_not_found(self):
         """Rules for another reason, and one that is found."""
         text, machine = self.answer("sentences/not-found", "odd.y")
-        pairs = [("as no cell reduces by it", "as its left side can't be reached")]
+        pairs = [("as no state reduces by it", "as its left side can't be reached")]
         pairs += [("rule 9", "rule 8"), ("5 of 9", "6 of 9")]
         look = lambda it: coverage.differences(machine, "rules", it)
         self.each_caught(look, text, *changed(text, *pairs))

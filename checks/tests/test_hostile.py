@@ -220,12 +220,12 @@ except OSError:
 
     def test_spent(self):
         """Kinds that are neither told nor counted."""
-        right = "dense.y: 1 shift/reduce, 0 reduce/reduce, in 3 cells of 3 kinds\n"
+        right = "dense.y: 1 shift/reduce, 0 reduce/reduce, in 3 table entries of 3 groups\n"
         right += "dense.y:3:1: warning: conflict 1: state\n"
-        right += "2 kinds more; the search for their lists of tokens would take too long:\n"
+        right += "2 groups more; the search for their lists of tokens would take too long:\n"
         pairs = [
-            ("of 3 kinds", "of 4 kinds"),
-            ("2 kinds more", "1 kinds more"),
+            ("of 3 groups", "of 4 groups"),
+            ("2 groups more", "1 groups more"),
             ("conflict 1", "conflict"),
         ]
 

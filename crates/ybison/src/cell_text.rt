@@ -71,7 +71,7 @@ impl<'a> CellText<'a> {
         let mut one = self.of_rule(alloc, rule)?;
         write!(
             one.message,
-            "refused: {name} in state {state}: {} {} wins against the shift, and bison compares no \
+            "{name} in state {state}: {} {} wins against the shift, and bison compares no \
              rule after it; ",
             self.numbered(winner),
             self.text(winner)
@@ -90,7 +90,7 @@ impl<'a> CellText<'a> {
         let mut one = at_place(alloc, source.path, source.spot(level), (b"%precedence", ""))?;
         write!(
             one.message,
-            "refused: {name} and the rule {} have one level of it, and meet in state {state}: ",
+            "{name} and the rule {} have one level of it, and meet in state {state}: ",
             self.text(rule)
         )?;
         match self.other.left.winner {
@@ -113,7 +113,7 @@ impl<'a> CellText<'a> {
         if is_refused {
             write!(
                 one.message,
-                "refused: without it {ended} and {other} could both be reduced at the end in state \
+                "without it {ended} and {other} could both be reduced at the end in state \
                  {state}, and yacc would reduce by {other}; bison has a shift/reduce conflict, and \
                  shifts it"
             )?;
@@ -142,7 +142,7 @@ impl<'a> CellText<'a> {
                 let (name, state) = (self.name(), self.other.state);
                 write!(
                     one.message,
-                    "refused: yacc does something else in state {state} on {name}: "
+                    "yacc does something else in state {state} on {name}: "
                 )?;
                 self.say_peer(&mut one)?;
                 Ok(one)
@@ -181,10 +181,13 @@ pub fn add_cells(
 ) -> io::Result<()> {
     let more = found.conflicts.saturating_sub(1);
     for (count, what) in [
-        (more, "cells more with conflicts that aren't those of bison"),
+        (
+            more,
+            "more table entries with conflicts that bison doesn't have",
+        ),
         (
             found.cut,
-            "cells with conflicts in states that no parse reaches, which bison leaves out",
+            "table entries with conflicts in states that no parse reaches, which bison leaves out",
         ),
     ] {
         if count > 0 {

@@ -128,7 +128,7 @@ fn add_unopened(
     let (path, imported) = (asked.source.path, asked.imported);
     if trouble.status() == 1 {
         let mut one = Diagnostic::new(alloc, Some(path), None)?;
-        one.say("refused: yacc would refuse what it becomes:")?;
+        one.say("yacc would refuse what it becomes:")?;
         told.add(one)?;
     }
     add_trouble(alloc, told, (path, &imported.text), trouble)?;

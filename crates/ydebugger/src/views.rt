@@ -52,7 +52,7 @@ fn put_mode<W: Write>(page: &mut Page<W>, mode: Mode) {
     match mode {
         Mode::Running => {}
         Mode::Popping => page.line(
-            "  The parse goes by no cell now: it looks for a state that can shift error.",
+            "  Error recovery: entries are popped until a state can shift error.",
         ),
         Mode::Accepted => page.line("  The input is accepted: there is no further step."),
         Mode::Failed => page.line("  The parse has given up: there is no further step."),

@@ -6,7 +6,22 @@ use crate::reads::level_of;
 use crate::rivals::{Kinds, Rivals};
 use std::io::{self, Write};
 use ylalr::END;
-use ysymbols::Sym;
+use ysymbols::{Grammar, Sym};
+
+/// Names for a precedence of a rule's own, one of which a grammar has no symbol of.
+const NAMES: &[&str] = &[
+    "LOW", "LOW1", "LOW2", "LOW3", "LOW4", "LOW5", "LOW6", "LOW7",
+];
+
+/// The first of these names that is no symbol of the grammar.
+fn fresh_name(grammar: &Grammar) -> &'static str {
+    for name in NAMES {
+        if grammar.find(name.as_bytes()).is_none() {
+            return name;
+        }
+    }
+    "LOW8"
+}
 
 impl Rivals<'_> {
     /// Writes how the cell can be settled otherwise.
@@ -166,9 +181,10 @@ impl Rivals<'_> {
             Some(_) => "the line of",
             None => "%nonassoc",
         };
+        let low = fresh_name(self.grammar());
         writeln!(
             out,
-            "  To choose, write %nonassoc LOW above {line} {name}, and %prec LOW at the end of \
+            "  To choose, write %nonassoc {low} above {line} {name}, and %prec {low} at the end of \
              rule {rule}: that shifts, and the other order of the lines reduces."
         )
     }
@@ -189,10 +205,11 @@ impl Rivals<'_> {
                  one shifts, {token} on it reduces."
             )?;
             if own {
+                let low = fresh_name(self.grammar());
                 writeln!(
                     out,
-                    "  In place of {token}, rule {rule} can have a name of its own, by %prec NAME \
-                     at its end."
+                    "  Or give rule {rule} a precedence of its own: %prec {low} at its end, and {low} \
+                     in place of {token}."
                 )?;
             }
             return Ok(());

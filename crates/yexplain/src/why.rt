@@ -59,7 +59,10 @@ impl<'a> Question<'a> {
         let rules = self.candidates().take(2).count();
         match (shifts, rules) {
             (false, 0) => self.put_empty(out),
-            (true, 0) if self.token == END => writeln!(out, "  The input can only end here."),
+            (true, 0) if self.token == END => writeln!(
+                out,
+                "  At end of input the only action is accept."
+            ),
             (true, 0) => writeln!(out, "  {} can only be shifted here.", self.name()),
             (false, 1) => match default_of(self.tables, self.state) {
                 Some(_) => writeln!(out, "  The state reduces by this rule whatever comes."),
@@ -91,7 +94,8 @@ impl<'a> Question<'a> {
     /// How the cell is settled, where it has several candidates.
     pub fn settled(self) -> Settled {
         let mut standings = [None; MOST_SHOWN];
-        if self.shift().is_some() {
+        let shifts = self.shift().is_some();
+        if shifts {
             for (place, candidate) in standings.iter_mut().zip(self.candidates()) {
                 *place = Some(candidate.standing);
             }
@@ -104,7 +108,7 @@ impl<'a> Question<'a> {
             },
             is_error: action == Action::Error,
             is_conflict: conflict_of(self.tables, self.state, self.token).is_some(),
-            is_end: self.token == END,
+            is_end: shifts && self.token == END,
             standings,
             hint: hint_on(self),
         }
@@ -205,7 +209,7 @@ impl<'a> Question<'a> {
         let name = self.name();
         match action_of(self.tables, self.state, self.token) {
             Action::Reduce(rule) if shifts => {
-                writeln!(out, "  So rule {rule} is reduced and {name} isn't shifted.")?;
+                writeln!(out, "  Resolved as reduce by rule {rule}.")?;
                 if is_conflict {
                     writeln!(
                         out,
@@ -216,20 +220,18 @@ impl<'a> Question<'a> {
             }
             Action::Reduce(rule) => writeln!(
                 out,
-                "  So rule {rule} is reduced, the first of them in the file: a conflict."
+                "  A reduce/reduce conflict: rule {rule} is reduced, the first of them in the file."
             ),
-            Action::Error => { writeln!(out, "  So {name} can't come here; nothing is counted.") }
+            Action::Error => { writeln!(out, "  Resolved as an error: {name} can't come here.") }
             Action::Shift(_) | Action::Accept if is_conflict => {
                 let is_end = self.token == END;
                 let deed = if is_end { "accepts" } else { "shifts" };
                 writeln!(
                     out,
-                    "  So yacc {deed}: a conflict, counted once for each such rule."
+                    "  A shift/reduce conflict, counted once for each such rule: yacc {deed}."
                 )
             }
-            Action::Shift(_) | Action::Accept => {
-                writeln!(out, "  So {name} is shifted; nothing is counted.")
-            }
+            Action::Shift(_) | Action::Accept => writeln!(out, "  Resolved as shift."),
         }
     }
 }

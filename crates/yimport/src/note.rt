@@ -97,7 +97,7 @@ impl Reason {
             Reason::TablesAsked => "yacc makes LALR(1) tables alone",
             Reason::OldWord => "it's yacc's word for this",
             Reason::Precedence => {
-                "yacc has no %precedence, and no cell that can be reached meets equal levels of it"
+                "yacc has no %precedence, and no state that can be reached compares equal levels of it"
             }
             Reason::NoType => "no nonterminal with a tag stands in it",
             Reason::TypedToken => "it's a token",

@@ -54,7 +54,7 @@ impl Refusal {
             Refusal::Flaw(Flaw::BadNumber) => "no number begins here",
             Refusal::Flaw(Flaw::BadReference) => "no name stands in these brackets",
             Refusal::Flaw(Flaw::Foreign) => "neither bison nor byacc has a lexeme that begins here",
-            Refusal::UnknownWord => "an unknown directive",
+            Refusal::UnknownWord => "unknown directive",
             Refusal::OtherParser => "it asks for another kind of parser",
             Refusal::NoDefault => "rules of yacc have a precedence without %prec",
             Refusal::SeveralStarts => "yacc has one start symbol",

@@ -217,9 +217,9 @@ impl Rejection {
 /// Writes whether the cells of a grammar file's tables have choices, for people.
 pub fn put_choice<W: Write>(out: &mut W, path: &str, tables: &Tables) -> io::Result<()> {
     let words = if tables.choice_free() {
-        "no cell has a choice, so the answers are those of the grammar's language"
+        "no state has a choice of actions, so the answers are those of the grammar's language"
     } else {
-        "cells have choices, so a list that is rejected here may be in the grammar's language"
+        "some states have a choice of actions, so a list that is rejected here may be in the grammar's language"
     };
     writeln!(out, "{path}: {words}")
 }

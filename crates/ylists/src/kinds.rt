@@ -12,9 +12,9 @@ pub fn put_counts<W: Write>(page: &mut Page<W>, tables: &Tables, found: &Conflic
     let counts = tables.conflicts();
     let (shifts, reduces) = (counts.shift_reduce, counts.reduce_reduce);
     let _ = write!(page, "{shifts} shift/reduce, {reduces} reduce/reduce, in ");
-    page.count(found.cells, "cell", "cells");
+    page.count(found.cells, "table entry", "table entries");
     page.put(" of ");
-    page.count(found.groups.len(), "kind", "kinds");
+    page.count(found.groups.len(), "group", "groups");
     page.end();
 }
 
@@ -42,13 +42,13 @@ pub fn put_states<W: Write>(page: &mut Page<W>, group: Group) {
 fn put_left<W: Write>(page: &mut Page<W>, left: usize, others: usize) {
     if left > 0 {
         page.put("and ");
-        page.count(left, "kind", "kinds");
+        page.count(left, "group", "groups");
         page.line(" more");
     }
     if others > 0 {
         page.put("and ");
-        page.count(others, "cell", "cells");
-        page.line(" whose kinds aren't told apart");
+        page.count(others, "table entry", "table entries");
+        page.line(" more, not grouped");
     }
 }
 

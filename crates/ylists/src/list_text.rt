@@ -64,20 +64,20 @@ impl<'a> ListText<'a> {
         if self.kind.others().len() > 1 {
             page.line(
                 "  What is taken is never possible together with a rule that stands alone or \
-                 without it below: states were merged, and canonical LR(1) would not have that \
-                 part of the conflict.",
+                 without it below: an artifact of LALR state merging; canonical LR(1) would not have \
+                 that part of the conflict.",
             );
         } else if self.group.states > 1 {
             let state = self.group.state;
             let _ = writeln!(
                 page,
-                "  No list of tokens allows both in state {state}: states were merged, and \
-                 canonical LR(1) would not have this conflict there."
+                "  No list of tokens allows both in state {state}: an artifact of LALR state \
+                 merging; canonical LR(1) would not have this conflict there."
             );
         } else {
             page.line(
-                "  No list of tokens allows both: states were merged, and canonical LR(1) would \
-                 not have this conflict.",
+                "  No list of tokens allows both: an artifact of LALR state merging; canonical \
+                 LR(1) would not have this conflict.",
             );
         }
     }

@@ -60,7 +60,7 @@ impl CauseText<'_> {
                     ", and "
                 };
                 let rule = Numbered(self.lines, rule);
-                writeln!(out, "{front}{rule} a name of its own by %prec")
+                writeln!(out, "{front}{rule} a precedence of its own by %prec")
             }
             None => writeln!(out),
         }

@@ -169,7 +169,7 @@ impl<W: Write, F: Files + AllocGlobal + Clone + Drop> Report<'_, W, F> {
         let rest = found.groups.len().saturating_sub(first);
         if rest > 0 {
             self.page.end();
-            self.page.count(rest, "kind", "kinds");
+            self.page.count(rest, "group", "groups");
             self.page.line(if first < all {
                 " more; the search for their lists of tokens would take too long:"
             } else {

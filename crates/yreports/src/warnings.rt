@@ -107,7 +107,7 @@ impl Warner<'_> {
                 let mut one = self.begin(self.lines.spot(rule))?;
                 write!(
                     one.message,
-                    "rule {rule} is never reduced, since it lost every cell:  {shown}"
+                    "rule {rule} is useless in the parser due to conflicts:  {shown}"
                 )?;
                 self.found.add(one)?;
             }
@@ -127,7 +127,7 @@ impl Warner<'_> {
             let is_meant = named.is_used(token) && level_of(self.grammar, token).is_some();
             if is_meant && !settles {
                 let spot = named.levelled.get(token).copied().flatten();
-                self.warn(spot, "the precedence of ", token, " settles nothing")?;
+                self.warn(spot, "useless precedence for ", token, "")?;
             }
         }
         Ok(())
@@ -138,13 +138,12 @@ impl Warner<'_> {
         for rule in 1..self.grammar.rules() {
             let settles = done.by_rule.get(rule).copied().unwrap_or(true);
             if !settles && self.lines.prec(rule).is_some() && self.is_live(rule) {
-                let may = if done.all_tried {
-                    "settles"
-                } else {
-                    "may settle"
-                };
                 let mut one = self.begin(self.lines.spot(rule))?;
-                write!(one.message, "the %prec of rule {rule} {may} nothing")?;
+                if done.all_tried {
+                    write!(one.message, "useless %prec in rule {rule}")?;
+                } else {
+                    write!(one.message, "%prec in rule {rule} may be useless")?;
+                }
                 self.found.add(one)?;
             }
         }
@@ -157,7 +156,7 @@ impl Warner<'_> {
             let is_token = self.grammar.is_token(token) && token > ERROR;
             if is_token && !named.is_used(token) {
                 let spot = named.spot(token);
-                self.warn(spot, "the token ", token, " is declared and used nowhere")?;
+                self.warn(spot, "token ", token, " is declared but never used")?;
             }
         }
         Ok(())
@@ -171,7 +170,17 @@ impl Warner<'_> {
             let spot = named.spot(symbol);
             let is_meant = is_in_rules && spot.is_some();
             if is_meant && symbol != ERROR && !is_reachable(self.grammar, symbol) {
-                self.warn(spot, "", symbol, " can't be reached from the start")?;
+                let front = if is_left {
+                    "useless nonterminal "
+                } else {
+                    "useless token "
+                };
+                self.warn(
+                    spot,
+                    front,
+                    symbol,
+                    ": it can't be reached from the start symbol",
+                )?;
             }
         }
         Ok(())

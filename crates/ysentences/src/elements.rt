@@ -28,8 +28,8 @@ impl Kind {
             (Kind::Rules, false) => "rules",
             (Kind::States, true) => "state",
             (Kind::States, false) => "states",
-            (Kind::Cells, true) => "cell",
-            (Kind::Cells, false) => "cells",
+            (Kind::Cells, true) => "action",
+            (Kind::Cells, false) => "actions",
         }
     }
 

@@ -133,7 +133,7 @@ fn put_missing<W: Write>(out: &mut W, missing: Missing) -> io::Result<()> {
             "# not found, as the shortest sentence has error, or more than {MOST_TOKENS} tokens: "
         ),
         Missing::Unreachable => write!(out, "# not found, as its left side can't be reached: "),
-        Missing::Lost => write!(out, "# not found, as no cell reduces by it: "),
+        Missing::Lost => write!(out, "# not found, as no state reduces by it: "),
     }
 }
 
