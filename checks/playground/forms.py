@@ -84,7 +84,7 @@ def reason_against(scenario):
         return "it writes files"
     if scenario.links:
         return "it has links"
-    if scenario.streams:
+    if scenario.streams or scenario.environment:
         return "a stream of it is a device"
     if any(it.startswith("/") for it in scenario.words):
         return "it names a device"

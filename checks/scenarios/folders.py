@@ -1,12 +1,12 @@
 """Scenarios as folders: what one holds, and which stand below a root."""
 import re
-from dataclasses import dataclass
+from dataclasses import dataclass, field
 from hashlib import sha256
 from pathlib import Path
 
 SUM = "stdout.sum"
 BACK = ("stdout", SUM, "message", "status")
-OWN = {"words", "stdin", "about", "links", "streams", "left", "gone", *BACK}
+OWN = {"words", "stdin", "about", "links", "streams", "environment", "left", "gone", *BACK}
 UNREAD = "unread"
 TIMES = ".times"
 REPEATED = re.compile(rb"\*(\d+) (.*)\n?")
@@ -27,6 +27,7 @@ class Scenario:
     links: dict
     streams: dict
     wanted: dict
+    environment: dict = field(default_factory=dict)
 
 
 def entries_of(folder):
@@ -80,7 +81,7 @@ def pairs_of(text):
     """What a file of two words a line says of the first ones."""
     pairs = [line.split() for line in text.decode().splitlines()]
     if any(len(pair) != 2 for pair in pairs):
-        raise Fault("a line of links or streams has other than two words")
+        raise Fault("a line of links, streams or environment has other than two words")
     return dict(pairs)
 
 
@@ -144,9 +145,10 @@ def read(folder, root, accepting):
     own = {path: it for path, it in held.items() if path.split("/")[0] not in OWN}
     inputs = spelled_out({**shared_with(folder, root), **own})
     words = words_of(held["words"])
-    links, streams = (pairs_of(held.get(name, b"")) for name in ("links", "streams"))
-    wanted = wanted_of(held, inputs)
-    return Scenario(folder, words, held.get("stdin", b""), inputs, links, streams, wanted)
+    pairs = [pairs_of(held.get(name, b"")) for name in ("links", "streams", "environment")]
+    (links, streams, environment), wanted = pairs, wanted_of(held, inputs)
+    stdin = held.get("stdin", b"")
+    return Scenario(folder, words, stdin, inputs, links, streams, wanted, environment)
 
 
 def lay(files, room):

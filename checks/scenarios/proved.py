@@ -57,7 +57,7 @@ def run_in(room, scenario, program, prepare=lambda _: None, **how):
     lay_links(scenario.links, room)
     prepare(room)
     with streams_of(scenario, room) as streams:
-        how = {"cwd": room, "env": {}, "timeout": SECONDS, **streams, **how}
+        how = {"cwd": room, "env": scenario.environment, "timeout": SECONDS, **streams, **how}
         if "stdin" in how:
             how.pop("input", None)
         ran = subprocess.run(words_of(scenario), executable=program, **how)

@@ -17,6 +17,7 @@ use std::io::{BufWriter, IsTerminal, Write};
 use std::process::ExitCode;
 use yexplain::text::Escaped;
 use yfiles::arguments::{Arguments, arguments_of};
+use yfiles::breaking::Breaking;
 use yfiles::steady::Steady;
 use yforms::{Ended, Given, Setting, status_of};
 
@@ -36,12 +37,27 @@ fn is_dumb(rt: &HostRuntime) -> bool {
     }
 }
 
+/// How many columns a line for people has: those that the environment says, from 20 on, or 80 at a
+/// terminal; in a file or a pipe a line has any number.
+fn columns_of(rt: &HostRuntime, is_terminal: bool) -> Option<usize> {
+    let said = match env::var(rt, "COLUMNS") {
+        Ok(value) => value.parse::<usize>().ok(),
+        Err(_) => None,
+    };
+    match said {
+        Some(columns) if columns >= 20 => Some(columns),
+        _ if is_terminal => Some(80),
+        _ => None,
+    }
+}
+
 /// Where a session takes place.
 fn setting_of(rt: &HostRuntime) -> Setting {
     let shown = rt.stdout().is_terminal();
     Setting {
         terminal: shown && rt.stdin().is_terminal(),
         colour: shown && !is_set(rt, "NO_COLOR") && !is_dumb(rt),
+        columns: columns_of(rt, shown),
     }
 }
 
@@ -53,13 +69,17 @@ fn obey(rt: &HostRuntime, arguments: &[String]) -> Ended {
         words.push(word.as_str()).map_err(AllocError::from)?;
     }
     let mut out = BufWriter::new(rt.alloc(), rt.stdout())?;
+    let columns = columns_of(rt, rt.stderr().is_terminal());
+    let errors = Breaking::new(rt.alloc(), rt.stderr(), columns);
     let mut given = Given {
         rt,
         input: rt.stdin(),
-        errors: Steady::new(rt.stderr(), true),
+        errors: Steady::new(errors, true),
         setting: setting_of(rt),
     };
-    let status = given.obey(&words, &mut out)?;
+    let obeyed = given.obey(&words, &mut out);
+    given.errors.flush()?;
+    let status = obeyed?;
     given.errors.finish()?;
     Ok(status)
 }

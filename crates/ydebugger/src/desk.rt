@@ -30,6 +30,8 @@ pub struct Setting {
     pub terminal: bool,
     /// Whether to write in colour.
     pub colour: bool,
+    /// How many columns a line for people has, where longer ones are to be broken at words.
+    pub columns: Option<usize>,
 }
 
 /// Whether a session goes on.

@@ -6,10 +6,11 @@
 //! tells whether an output is an input or another output. `output` has a text in memory, which
 //! remembers its first fault, so that no writer asks after a piece; `writing` writes a text beside
 //! its file and renames it when it is complete. `steady` has a writer whose failure doesn't end the
-//! work, and `arguments` the arguments of a program.
+//! work, `breaking` one that breaks lines at words, and `arguments` the arguments of a program.
 #![tactic(auto)]
 
 pub mod arguments;
+pub mod breaking;
 pub mod diagnostic;
 pub mod output;
 pub mod place;

@@ -17,8 +17,8 @@ use yinput::language::LanguageFiles;
 use ymessages::run as messages;
 use ypage::page;
 use ypage::walk::Part;
-use yskeleton::rules;
 use ysentences::run as sentences;
+use yskeleton::rules;
 
 /// What words ask for.
 #[derive(Drop)]
@@ -49,6 +49,18 @@ pub enum Asked<'a> {
     Rules(rules::Asked<'a>),
     /// The files that `yacc` writes.
     Table(table::Asked<'a>),
+}
+
+impl Asked<'_> {
+    /// Whether what is written is for people alone, so that long lines may be broken.
+    pub fn is_for_people(&self) -> bool {
+        match self {
+            Asked::Session(..) | Asked::Cover(_) => true,
+            Asked::Conflicts(asked) => form_of(asked.format) == Some(Format::Text),
+            Asked::Check(asked) => asked.inputs.format == Format::Text && !asked.plain,
+            _ => false,
+        }
+    }
 }
 
 /// A report on conflicts.

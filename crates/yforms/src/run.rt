@@ -12,13 +12,14 @@ use std::io::{self, Read, Write};
 use std::rt::Files;
 use ybison::import::run_import;
 use ydebugger::debug;
+use yfiles::breaking::Breaking;
 use yfiles::reading::Limited;
 use yinput::language::LanguageFiles;
 use yinput::source::Source;
 use ymessages::run::run_errors;
 use ypage::page::run_page;
-use yskeleton::rules::run_rules;
 use ysentences::run::run_sentences;
+use yskeleton::rules::run_rules;
 
 /// What a command line makes of words. Help or the version that they ask for is written.
 fn matches_by<'a, W: Write>(
@@ -99,7 +100,13 @@ impl<F: Files + AllocGlobal + Clone + Drop, R: Read + Drop, E: Write> Given<'_, 
         let alloc = self.rt.alloc();
         let matches = matches_by(alloc, command_of(alloc, form.name(), form)?, words, out)?;
         let asked = asked_in(form, &matches)?;
-        let status = self.answer(asked, out)?;
+        let columns = if asked.is_for_people() {
+            self.setting.columns
+        } else {
+            None
+        };
+        let mut out = Breaking::new(alloc, out, columns);
+        let status = self.answer(asked, &mut out)?;
         out.flush()?;
         Ok(status)
     }

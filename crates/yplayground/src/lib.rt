@@ -23,6 +23,7 @@ const UNREADABLE: u32 = 125;
 const SETTING: Setting = Setting {
     terminal: false,
     colour: false,
+    columns: None,
 };
 
 /// What a run came to: all that it wrote, and its exit status.

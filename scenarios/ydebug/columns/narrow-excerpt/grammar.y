@@ -1,0 +1,2 @@
+%%
+statement : "a string" and some more names in a line of 80 columns or so
