@@ -374,6 +374,26 @@ pub fn import_of(
     Ok(Err(trouble.status()))
 }
 
+/// Notes that a file is read as one of bison or byacc, at the place where `yacc` refuses it.
+fn add_seen(
+    alloc: Global,
+    told: &mut Diagnostics,
+    source: Source<'_>,
+    trouble: &Trouble<'_>,
+) -> io::Result<()> {
+    let Source { path, bytes } = source;
+    let place = |at| Place {
+        path,
+        source: bytes,
+        at,
+    }
+    .spot();
+    let mut one = Diagnostic::new(alloc, Some(path), trouble.place().map(place))?;
+    one.severity = Severity::Note;
+    one.say("read as a file of bison or byacc, since yacc refuses this")?;
+    Ok(told.add(one)?)
+}
+
 /// Opens a grammar file. What is to be said of it is told; where it is refused, the exit status is
 /// the answer.
 pub fn open_grammar(
@@ -388,7 +408,11 @@ pub fn open_grammar(
         match open_bytes(alloc, source.bytes, None) {
             Ok(opened) => return Ok(Ok(Read::Plain(opened))),
             Err(trouble) if dialect == Dialect::Seen => {
-                import_of(alloc, told, source, &trouble)?
+                let imported = import_of(alloc, told, source, &trouble)?;
+                if imported.is_ok() {
+                    add_seen(alloc, told, source, &trouble)?;
+                }
+                imported
             }
             Err(trouble) => {
                 add_trouble(alloc, told, (source.path, source.bytes), &trouble)?;

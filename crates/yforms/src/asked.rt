@@ -4,7 +4,7 @@ use crate::ending::Refused;
 use crate::forms::Form;
 use crate::values::{
     NO_FOLDER, drawn_in, grammar_in, input_in, is_given, kind_in, language_in, messages_in,
-    most_of, number_of, page_from, value_of,
+    most_of, number_of, page_in, value_of,
 };
 use crate::{check, conflicts, cover, table};
 use clap::ArgMatches;
@@ -23,8 +23,6 @@ use yskeleton::rules;
 /// What words ask for.
 #[derive(Drop)]
 pub enum Asked<'a> {
-    /// Nothing, since options don't go together or the value of one is wrong, as this says.
-    Wrong(&'static str),
     /// A session over the files of a language and an input.
     Session(LanguageFiles<'a>, Limited<'a>),
     /// A report on conflicts.
@@ -74,10 +72,10 @@ fn conflicts_in<'m>(matches: &'m ArgMatches<'_>) -> Result<Asked<'m>, Refused> {
         update: is_given(matches, "update"),
         format: matches.get_str("format"),
     };
-    Ok(match conflicts::wrong_in(asked) {
-        Some(wrong) => Asked::Wrong(wrong),
-        None => Asked::Conflicts(asked),
-    })
+    match conflicts::wrong_in(asked) {
+        Some(wrong) => Err(Refused::Wrong(wrong)),
+        None => Ok(Asked::Conflicts(asked)),
+    }
 }
 
 /// Verdicts on inputs.
@@ -94,13 +92,13 @@ fn check_in<'m>(matches: &'m ArgMatches<'_>) -> Result<Asked<'m>, Refused> {
         choice: is_given(matches, "choice"),
         plain: is_given(matches, "plain"),
     };
-    Ok(match format {
-        None => Asked::Wrong(NO_FORM),
+    match format {
+        None => Err(Refused::Wrong(NO_FORM)),
         Some(Format::Gcc | Format::Json) if asked.plain || asked.choice => {
-            Asked::Wrong("--choice and --plain want --format text")
+            Err(Refused::Wrong("--choice and --plain want --format text"))
         }
-        Some(_) => Asked::Check(asked),
-    })
+        Some(_) => Ok(Asked::Check(asked)),
+    }
 }
 
 /// Why options for errors don't go together, where they don't.
@@ -126,10 +124,10 @@ fn errors_in<'m>(matches: &'m ArgMatches<'_>) -> Result<Asked<'m>, Refused> {
         update: is_given(matches, "update"),
         table: matches.get_str("table"),
     };
-    Ok(match wrong_in(asked) {
-        Some(wrong) => Asked::Wrong(wrong),
-        None => Asked::Errors(asked),
-    })
+    match wrong_in(asked) {
+        Some(wrong) => Err(Refused::Wrong(wrong)),
+        None => Ok(Asked::Errors(asked)),
+    }
 }
 
 /// Sentences of a grammar.
@@ -142,11 +140,10 @@ fn sentences_in<'m>(matches: &'m ArgMatches<'_>) -> Result<Asked<'m>, Refused> {
         save: matches.get_str("save"),
         strict: is_given(matches, "strict"),
     };
-    Ok(if asked.save == Some("") {
-        Asked::Wrong(NO_FOLDER)
-    } else {
-        Asked::Sentences(asked)
-    })
+    if asked.save == Some("") {
+        return Err(Refused::Wrong(NO_FOLDER));
+    }
+    Ok(Asked::Sentences(asked))
 }
 
 /// What inputs use.
@@ -160,17 +157,12 @@ fn cover_in<'m>(matches: &'m ArgMatches<'_>) -> Result<Asked<'m>, Refused> {
 }
 
 /// A page of a parse.
-fn page_in<'m>(matches: &'m ArgMatches<'_>) -> Result<Asked<'m>, Refused> {
-    let (dialect, from) = page_from(matches.get_strs("from").unwrap_or(&[]))?;
-    let files = LanguageFiles {
-        grammar: GrammarFile {
-            path: value_of(matches, "grammar")?,
-            dialect,
-        },
-        spec: matches.get_str("lex"),
-    };
+fn page_of<'m>(matches: &'m ArgMatches<'_>) -> Result<Asked<'m>, Refused> {
+    let (grammar, from) = page_in(matches)?;
+    let spec = matches.get_str("lex");
+    let files = LanguageFiles { grammar, spec };
     let input = input_in(matches)?;
-    let to = number_of(matches, "to")?;
+    let to = number_of(matches, "last", "--last takes a position")?;
     let asked = page::Asked {
         file: matches.get_str("file"),
         part: Part { from, to },
@@ -191,7 +183,7 @@ pub fn asked_in<'m>(form: Form, matches: &'m ArgMatches<'_>) -> Result<Asked<'m>
         Form::Errors => errors_in(matches),
         Form::Sentences => sentences_in(matches),
         Form::Cover => cover_in(matches),
-        Form::Page => page_in(matches),
+        Form::Page => page_of(matches),
         Form::Import => Ok(Asked::Import(import::Asked {
             file: value_of(matches, "file")?,
             output: matches.get_str("output"),

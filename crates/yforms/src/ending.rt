@@ -7,8 +7,12 @@ use std::io::{self, ErrorKind, Write};
 /// Why nothing was done.
 #[derive(Clone, Copy)]
 pub enum Refused {
-    /// The words are not those of the program.
+    /// There are no arguments.
     Arguments,
+    /// The arguments are wrong, which is said.
+    Said,
+    /// What an option says is wrong, as this tells.
+    Wrong(&'static str),
     /// Help or the version was asked for, and is written.
     Helped,
     /// Memory ran out.
@@ -51,7 +55,8 @@ fn put_usage<E: Write>(errors: &mut E) -> io::Result<()> {
 fn put_refused<E: Write>(refused: Refused, errors: &mut E) -> io::Result<()> {
     match refused {
         Refused::Arguments => put_usage(errors),
-        Refused::Helped | Refused::Unread => Ok(()),
+        Refused::Said | Refused::Helped | Refused::Unread => Ok(()),
+        Refused::Wrong(why) => writeln!(errors, "ydebug: error: {why}"),
         Refused::Memory => errors.write_all(b"ydebug: no memory\n"),
         Refused::Outside => errors.write_all(b"ydebug: cannot read or write\n"),
     }
@@ -67,7 +72,7 @@ pub fn status_of<E: Write>(ended: Ended, errors: &mut E) -> u8 {
     let _ = put_refused(refused, errors);
     match refused {
         Refused::Helped => 0,
-        Refused::Arguments => 2,
+        Refused::Arguments | Refused::Said | Refused::Wrong(_) => 2,
         Refused::Memory | Refused::Outside => 3,
         Refused::Unread => ENDED_BY_PIPE,
     }

@@ -19,13 +19,13 @@ pub const FORMS: &str = "Other forms:\n\
     \x20 ydebug sentences grammar --random N [--length L] [--seed S] [--lex SPEC] [--near]\n\
     \x20     [--save FOLDER] [--strict]\n\
     \x20 ydebug cover grammar tokens.. [--lex SPEC] [--strict]\n\
-    \x20 ydebug page grammar tokens [--lex SPEC] [-o FILE] [--from K] [--to K] [--conflicts]\n\
+    \x20 ydebug page grammar tokens [--lex SPEC] [-o FILE] [--first K] [--last K] [--conflicts]\n\
     \x20 ydebug tokens grammar --lex SPEC input\n\
     \x20 ydebug lex-spec grammar\n\
     \x20 ydebug import file [-o grammar]\n\
     \x20 ydebug rules grammar [--header FILE] [--python FILE]\n\
     \x20 ydebug table [-v] [-b PREFIX] grammar\n\
-    With --from bison the grammar is a file of bison or byacc.\n\
+    A grammar file of bison or byacc is read as one; --dialect D (yacc, bison, auto) says which it is.\n\
     With --limit N an input has up to N bytes; without it, up to 16777216.\n";
 
 /// The version of the program.
@@ -98,164 +98,295 @@ pub fn form_of(word: Option<&&str>) -> Form {
     Form::Debug
 }
 
-const GRAMMAR: &str = "grammar: The grammar file";
+/// How an argument is given.
+#[derive(Clone, Copy)]
+pub enum Way {
+    /// A file, by its place, which help calls so.
+    File(&'static str),
+    /// Files, by their places: one or more.
+    Files,
+    /// An option without a value.
+    Flag,
+    /// An option with a value, which help calls so.
+    Value(&'static str),
+    /// Such an option, which is required.
+    Wanted(&'static str),
+    /// Such an option, and another name that it has had.
+    Renamed(&'static str, &'static str),
+    /// A name that an option has had, which may be given again; help doesn't show it.
+    Old,
+    /// A letter with a value, which help calls so.
+    Letter(char, &'static str),
+    /// A letter without a value.
+    LetterFlag(char),
+}
 
-const INPUT: &str = "tokens: The tokens file; with --lex, a text";
+/// An argument: its name, how it is given, and what help says of it.
+pub type Argument = (&'static str, Way, &'static str);
 
-const LEX: &str = "--lex SPEC: The file that says how the tokens of a text look";
+const GRAMMAR: Argument = ("grammar", Way::File("grammar"), "The grammar file");
 
-const LIMIT: &str = "--limit N: The most bytes of an input; without it, 16777216";
+const INPUT: Argument = (
+    "tokens",
+    Way::File("tokens"),
+    "The tokens file; with --lex, a text",
+);
 
-const FROM: &str = "--from FORM: bison: the grammar is a file of bison or byacc";
+const LEX: Argument = (
+    "lex",
+    Way::Value("SPEC"),
+    "The file that says how the tokens of a text look",
+);
 
-const FORMAT: &str =
-    "--format FORM: gcc: a line for each thing; json: a document; text: for people";
+const LIMIT: Argument = (
+    "limit",
+    Way::Value("N"),
+    "The most bytes of an input; without it, 16777216",
+);
 
-const DEBUG: &[&str] = &[GRAMMAR, INPUT, LEX, LIMIT, FROM];
+const DIALECTS: &str = "yacc, bison (or byacc), or auto, which sees it; without it, auto";
 
-const CONFLICTS: &[&str] = &[
+const DIALECT: Argument = ("dialect", Way::Renamed("D", "from"), DIALECTS);
+
+const FORMAT: Argument = (
+    "format",
+    Way::Value("FORM"),
+    "gcc: a line for each thing; json: a document; text: for people",
+);
+
+const DEBUG: &[Argument] = &[GRAMMAR, INPUT, LEX, LIMIT, DIALECT];
+
+const CONFLICTS: &[Argument] = &[
     GRAMMAR,
-    "--save save: Writes the tokens of each conflict to a file of this folder",
-    FROM,
-    "--strict: Ends with 1 where a conflict isn't accepted, or there is a warning",
-    "--expect N: Accepts N shift/reduce conflicts; with N,M also M reduce/reduce ones",
-    "--accept FILE: Accepts the conflicts that this file lists",
-    "--update: Writes the list of accepted conflicts anew",
+    (
+        "save",
+        Way::Value("FOLDER"),
+        "Writes the tokens of each conflict to a file of this folder",
+    ),
+    DIALECT,
+    (
+        "strict",
+        Way::Flag,
+        "Ends with 1 where a conflict isn't accepted, or there is a warning",
+    ),
+    (
+        "expect",
+        Way::Value("N"),
+        "Accepts N shift/reduce conflicts; with N,M also M reduce/reduce ones",
+    ),
+    (
+        "accept",
+        Way::Value("FILE"),
+        "Accepts the conflicts that this file lists",
+    ),
+    (
+        "update",
+        Way::Flag,
+        "Writes the list of accepted conflicts anew",
+    ),
     FORMAT,
 ];
 
-const MESSAGES: &str = "--messages FILE: A file of messages";
+const MESSAGES: Argument = ("messages", Way::Value("FILE"), "A file of messages");
 
-const INPUTS: &str = "tokens..: The tokens files, or with --lex texts; - is standard input";
+const INPUTS: Argument = (
+    "tokens",
+    Way::Files,
+    "The tokens files, or with --lex texts; - is standard input",
+);
 
-const CHECK: &[&str] = &[
+const CHECK: &[Argument] = &[
     GRAMMAR,
     INPUTS,
     LEX,
     LIMIT,
-    FROM,
+    DIALECT,
     MESSAGES,
-    "--choice: Says whether the grammar is free of choices",
-    "--plain: Writes a plain line for the grammar and for each input",
+    (
+        "choice",
+        Way::Flag,
+        "Says whether the grammar is free of choices",
+    ),
+    (
+        "plain",
+        Way::Flag,
+        "Writes a plain line for the grammar and for each input",
+    ),
     FORMAT,
 ];
 
-const ERRORS: &[&str] = &[
+const ERRORS: &[Argument] = &[
     GRAMMAR,
-    "--lex SPEC: Inputs are texts, whose tokens look as this file says",
+    (
+        "lex",
+        Way::Value("SPEC"),
+        "Inputs are texts, whose tokens look as this file says",
+    ),
     MESSAGES,
-    "--complete: Wants a message for each state in which an error is detected",
-    "--update: Writes the file anew: its comments, and the states that are new",
-    "--table OUT: Writes the messages as data for drivers to this file",
+    (
+        "complete",
+        Way::Flag,
+        "Wants a message for each state in which an error is detected",
+    ),
+    (
+        "update",
+        Way::Flag,
+        "Writes the file anew: its comments, and the states that are new",
+    ),
+    (
+        "table",
+        Way::Value("OUT"),
+        "Writes the messages as data for drivers to this file",
+    ),
     LIMIT,
-    FROM,
+    DIALECT,
 ];
 
-const SENTENCES: &[&str] = &[
+const SENTENCES: &[Argument] = &[
     GRAMMAR,
-    "--lex SPEC: Writes texts, whose tokens look as this file says",
-    "--cover KIND: What they use: rules, states or actions; without it, rules",
-    "--random N: Draws so many sentences at random instead",
-    "--length L: The most tokens of each that is drawn; without it, 20",
-    "--seed S: What they are drawn by; without it, 1",
-    "--near: Writes lists that are near to each too, with their verdicts",
-    "--save FOLDER: Writes each list to a file of this folder",
-    FROM,
-    "--strict: Ends with 1 where something isn't found, or a random sentence is refused",
+    (
+        "lex",
+        Way::Value("SPEC"),
+        "Writes texts, whose tokens look as this file says",
+    ),
+    (
+        "cover",
+        Way::Value("KIND"),
+        "What they use: rules, states or actions; without it, rules",
+    ),
+    (
+        "random",
+        Way::Value("N"),
+        "Draws so many sentences at random instead",
+    ),
+    (
+        "length",
+        Way::Value("L"),
+        "The most tokens of each that is drawn; without it, 20",
+    ),
+    (
+        "seed",
+        Way::Value("S"),
+        "What they are drawn by; without it, 1",
+    ),
+    (
+        "near",
+        Way::Flag,
+        "Writes lists that are near to each too, with their verdicts",
+    ),
+    (
+        "save",
+        Way::Value("FOLDER"),
+        "Writes each list to a file of this folder",
+    ),
+    DIALECT,
+    (
+        "strict",
+        Way::Flag,
+        "Ends with 1 where something isn't found, or a random sentence is refused",
+    ),
 ];
 
-const COVER: &[&str] = &[
+const COVER: &[Argument] = &[
     GRAMMAR,
     INPUTS,
     LEX,
     LIMIT,
-    FROM,
-    "--strict: Ends with 1 where something isn't used",
+    DIALECT,
+    (
+        "strict",
+        Way::Flag,
+        "Ends with 1 where something isn't used",
+    ),
 ];
 
-const PAGE: &[&str] = &[
+const PAGE: &[Argument] = &[
     GRAMMAR,
     INPUT,
-    "-o file: The file that the page goes to; without it, standard output",
+    (
+        "file",
+        Way::Letter('o', "file"),
+        "The file that the page goes to; without it, standard output",
+    ),
     LEX,
     LIMIT,
-    "--from from..: The first position that it shows; bison: as elsewhere",
-    "--to to: The last position that it shows",
-    "--conflicts: Shows the conflicts of the grammar too",
+    ("dialect", Way::Value("D"), DIALECTS),
+    ("first", Way::Value("K"), "The first position that it shows"),
+    (
+        "last",
+        Way::Renamed("K", "to"),
+        "The last position that it shows",
+    ),
+    ("from", Way::Old, "A dialect, or the first position"),
+    (
+        "conflicts",
+        Way::Flag,
+        "Shows the conflicts of the grammar too",
+    ),
 ];
 
-const TOKENS: &[&str] = &[
+const TOKENS: &[Argument] = &[
     GRAMMAR,
-    "tokens input: The text",
-    "--lex SPEC!: The file that says how the tokens of a text look",
+    ("tokens", Way::File("input"), "The text"),
+    (
+        "lex",
+        Way::Wanted("SPEC"),
+        "The file that says how the tokens of a text look",
+    ),
     LIMIT,
-    FROM,
+    DIALECT,
 ];
 
-const SKETCH: &[&str] = &[GRAMMAR, FROM];
+const SKETCH: &[Argument] = &[GRAMMAR, DIALECT];
 
-const IMPORT: &[&str] = &[
-    "file: The file of bison or byacc",
-    "-o output: Writes the grammar to this file",
+const IMPORT: &[Argument] = &[
+    ("file", Way::File("file"), "The file of bison or byacc"),
+    (
+        "output",
+        Way::Letter('o', "output"),
+        "Writes the grammar to this file",
+    ),
 ];
 
-const RULES: &[&str] = &[
+const RULES: &[Argument] = &[
     GRAMMAR,
-    "--header FILE: Writes the names as a header in C to this file",
-    "--python FILE: Writes them as a module in Python to this file",
-    FROM,
+    (
+        "header",
+        Way::Value("FILE"),
+        "Writes the names as a header in C to this file",
+    ),
+    (
+        "python",
+        Way::Value("FILE"),
+        "Writes them as a module in Python to this file",
+    ),
+    DIALECT,
 ];
 
-const TABLE: &[&str] = &[
+const TABLE: &[Argument] = &[
     GRAMMAR,
-    "-v: Writes the report on states too",
-    "-b prefix: What the names of the files begin with; without it, y",
+    ("v", Way::LetterFlag('v'), "Writes the report on states too"),
+    (
+        "prefix",
+        Way::Letter('b', "prefix"),
+        "What the names of the files begin with; without it, y",
+    ),
 ];
 
-/// An argument as it is spelled here, and what help says of it.
-fn halves(wanted: &'static str) -> (&'static str, &'static str) {
-    wanted.split_once(": ").unwrap_or((wanted, ""))
-}
-
-/// The option that an argument is, without its two dashes, where it is one.
-pub fn option_of(wanted: &'static str) -> Option<&'static str> {
-    let option = halves(wanted).0.strip_prefix("--")?;
-    Some(option.split_once(' ').map_or(option, |(name, _)| name))
-}
-
-/// An argument of this name that is given once.
-fn named<'a>(alloc: Global, name: &'static str, help: &'static str) -> Arg<'a> {
-    Arg::new(alloc, name).action(ArgAction::Set).help(help)
-}
-
-/// An argument as clap has it. An option has a value, which with `!` is required and with dots may
-/// be given again; without one it is a flag. A name, and the one that help shows where that is
-/// another, are a file, which is required, and with dots several; a letter after a dash has the name
-/// of its value, where it has one.
-fn argument<'a>(alloc: Global, wanted: &'static str) -> Arg<'a> {
-    let (spelled, help) = halves(wanted);
-    let (front, value) = spelled.split_once(' ').unwrap_or((spelled, ""));
-    if let Some(name) = front.strip_prefix("--") {
-        let arg = named(alloc, name, help).long(name);
-        return match (value.strip_suffix("!"), value.strip_suffix("..")) {
-            (Some(shown), _) => arg.value_name(shown).required(true),
-            (_, Some(shown)) => arg.value_name(shown).action(ArgAction::Append),
-            _ if value.is_empty() => arg.action(ArgAction::SetTrue),
-            _ => arg.value_name(value),
-        };
-    }
-    match (front.strip_prefix("-"), front.strip_suffix("..")) {
-        (Some("v"), _) => named(alloc, "v", help)
-            .short('v')
-            .action(ArgAction::SetTrue),
-        (Some("o"), _) => named(alloc, value, help).short('o'),
-        (Some(_), _) => named(alloc, value, help).short('b'),
-        (None, Some(name)) => named(alloc, name, help).required(true).num_args(1..),
-        (None, None) => {
-            let shown = if value.is_empty() { front } else { value };
-            named(alloc, front, help).required(true).value_name(shown)
-        }
-    }
+/// An argument as clap has it.
+fn argument<'a>(alloc: Global, (name, way, help): Argument) -> Result<Arg<'a>, AllocError> {
+    let arg = Arg::new(alloc, name).action(ArgAction::Set).help(help);
+    Ok(match way {
+        Way::File(shown) => arg.required(true).value_name(shown),
+        Way::Files => arg.required(true).num_args(1..),
+        Way::Flag => arg.long(name).action(ArgAction::SetTrue),
+        Way::Value(shown) => arg.long(name).value_name(shown),
+        Way::Wanted(shown) => arg.long(name).value_name(shown).required(true),
+        Way::Renamed(shown, old) => arg.long(name).value_name(shown).alias(old)?,
+        Way::Old => arg.long(name).action(ArgAction::Append).hide(true),
+        Way::Letter(letter, shown) => arg.short(letter).value_name(shown),
+        Way::LetterFlag(letter) => arg.short(letter).action(ArgAction::SetTrue),
+    })
 }
 
 /// What a form does.
@@ -277,7 +408,7 @@ fn about(form: Form) -> &'static str {
 }
 
 /// The arguments of a form.
-pub fn arguments_of(form: Form) -> &'static [&'static str] {
+pub fn arguments_of(form: Form) -> &'static [Argument] {
     match form {
         Form::Debug => DEBUG,
         Form::Conflicts => CONFLICTS,
@@ -298,8 +429,8 @@ pub fn arguments_of(form: Form) -> &'static [&'static str] {
 /// the others.
 pub fn command_of<'a>(alloc: Global, name: &'a str, form: Form) -> Result<Command<'a>, AllocError> {
     let mut command = Command::new(alloc, name).about(about(form));
-    for word in arguments_of(form) {
-        command = command.arg(argument(alloc, *word))?;
+    for wanted in arguments_of(form) {
+        command = command.arg(argument(alloc, *wanted)?)?;
     }
     match form {
         Form::Debug => Ok(command.version(VERSION).after_help(FORMS)),

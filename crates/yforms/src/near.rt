@@ -1,33 +1,10 @@
-//! What could be meant by arguments that are no command and no option.
+//! What is said of arguments that are refused, and what could be meant by them.
 
-use crate::forms::{Form, OTHERS, arguments_of, option_of};
-use std::alloc::Global;
+use crate::forms::{Argument, Form, OTHERS, Way, arguments_of};
 use std::fs;
 use std::io::{self, Write};
 use std::rt::Files;
 use yfaults::nearest::Search;
-
-/// Asks whether another option was meant by an argument, where it begins as one.
-fn put_near_option<W: Write>(alloc: Global, out: &mut W, form: Form, word: &str) -> io::Result<()> {
-    let name = word.strip_prefix("--").unwrap_or("");
-    let name = name.split('=').next().unwrap_or(name);
-    let mut search = Search::new(name.as_bytes());
-    for option in arguments_of(form).iter().filter_map(|it| option_of(*it)) {
-        if option == name {
-            return Ok(());
-        }
-        search.offer(alloc, option.as_bytes())?;
-    }
-    match search.text() {
-        Some(near) => {
-            writeln!(
-                out,
-                "ydebug: there is no option --{name}; did you mean --{near}?"
-            )
-        }
-        None => Ok(()),
-    }
-}
 
 /// Asks whether a command was meant by the first argument of a session, where that is no file, and
 /// no path either.
@@ -51,18 +28,31 @@ pub fn put_near_form<F: Files + AllocGlobal, W: Write>(
     }
 }
 
-/// Asks whether other arguments were meant by those of a form, which are refused.
-pub fn put_near_arguments<F: Files + AllocGlobal, W: Write>(
-    rt: &F,
-    out: &mut W,
-    form: Form,
-    words: &[&str],
-) -> io::Result<()> {
-    if let (Form::Debug, Some(first)) = (form, words.first()) {
-        put_near_form(rt, out, first)?;
+/// Writes an argument as it is given.
+fn put_argument<W: Write>(out: &mut W, (name, way, _): Argument) -> io::Result<()> {
+    match way {
+        Way::File(shown) => write!(out, " {shown}"),
+        Way::Files => write!(out, " {name}.."),
+        Way::Flag => write!(out, " [--{name}]"),
+        Way::Value(shown) | Way::Renamed(shown, _) => write!(out, " [--{name} {shown}]"),
+        Way::Wanted(shown) => write!(out, " --{name} {shown}"),
+        Way::Letter(letter, shown) => write!(out, " [-{letter} {shown}]"),
+        Way::LetterFlag(letter) => write!(out, " [-{letter}]"),
+        Way::Old => Ok(()),
     }
-    for word in words {
-        put_near_option(rt.alloc(), out, form, word)?;
+}
+
+/// Writes what is wrong with arguments, as clap says it, and what the form takes.
+pub fn put_refused<W: Write>(out: &mut W, form: Form, text: &str) -> io::Result<()> {
+    let said = text
+        .split_once("\n\nUsage: ")
+        .map_or(text, |(said, _)| said);
+    let said = said
+        .split_once("\n\nFor more ")
+        .map_or(said, |(said, _)| said);
+    write!(out, "ydebug: {said}\n\nusage: {}", form.name())?;
+    for wanted in arguments_of(form) {
+        put_argument(out, *wanted)?;
     }
-    Ok(())
+    writeln!(out)
 }

@@ -4,9 +4,9 @@ use crate::asked::{Asked, asked_in};
 use crate::ending::{Ended, Refused};
 use crate::forms::{Form, command_of, form_of};
 use crate::given::Given;
-use crate::near::{put_near_arguments, put_near_form};
+use crate::near::{put_near_form, put_refused};
+use clap::ArgMatches;
 use clap::error::ErrorKind;
-use clap::{ArgMatches, Command};
 use std::alloc::{AllocError, Global};
 use std::io::{self, Read, Write};
 use std::rt::Files;
@@ -21,23 +21,29 @@ use ypage::page::run_page;
 use ysentences::run::run_sentences;
 use yskeleton::rules::run_rules;
 
-/// What a command line makes of words. Help or the version that they ask for is written.
-fn matches_by<'a, W: Write>(
+/// What the command line of a form makes of words. Help or the version that they ask for is written,
+/// and what is wrong with them.
+fn matches_by<'a, W: Write, E: Write>(
     alloc: Global,
-    command: Command<'a>,
+    form: Form,
     words: &'a [&'a str],
-    out: &mut W,
+    (out, errors): (&mut W, &mut E),
 ) -> Result<ArgMatches<'a>, Refused> {
+    let command = command_of(alloc, form.name(), form)?;
     let error = match command.try_get_matches_from(words) {
         Ok(matches) => return Ok(matches),
         Err(error) => error,
     };
+    let text = format!(in alloc; "{error}")?;
     match error.kind() {
         ErrorKind::DisplayHelp | ErrorKind::DisplayVersion => {}
         ErrorKind::OutOfMemory => return Err(Refused::Memory),
-        _ => return Err(Refused::Arguments),
+        _ if words.len() == 1 && matches!(form, Form::Debug) => return Err(Refused::Arguments),
+        _ => {
+            put_refused(errors, form, text.as_str())?;
+            return Err(Refused::Said);
+        }
     }
-    let text = format!(in alloc; "{error}")?;
     match out.write_all(text.as_bytes()).and_then(|()| out.flush()) {
         Err(error) if error.kind() == io::ErrorKind::BrokenPipe => Err(Refused::Unread),
         _ => Err(Refused::Helped),
@@ -76,7 +82,6 @@ impl<F: Files + AllocGlobal + Clone + Drop, R: Read + Drop, E: Write> Given<'_, 
     fn answer<W: Write>(&mut self, asked: Asked<'_>, out: &mut W) -> io::Result<u8> {
         let rt = self.rt;
         match asked {
-            Asked::Wrong(why) => writeln!(self.errors, "ydebug: {why}").map(|()| 2),
             Asked::Session(files, input) => self.run_session(files, input, out),
             Asked::Conflicts(asked) => self.run_conflicts(asked, out),
             Asked::Check(asked) => self.run_check(asked, out),
@@ -98,7 +103,7 @@ impl<F: Files + AllocGlobal + Clone + Drop, R: Read + Drop, E: Write> Given<'_, 
     /// Does what the words of a form ask for.
     fn obey_form<W: Write>(&mut self, form: Form, words: &[&str], out: &mut W) -> Ended {
         let alloc = self.rt.alloc();
-        let matches = matches_by(alloc, command_of(alloc, form.name(), form)?, words, out)?;
+        let matches = matches_by(alloc, form, words, (out, &mut self.errors))?;
         let asked = asked_in(form, &matches)?;
         let columns = if asked.is_for_people() {
             self.setting.columns
@@ -118,8 +123,8 @@ impl<F: Files + AllocGlobal + Clone + Drop, R: Read + Drop, E: Write> Given<'_, 
         let given = words.get(first..).unwrap_or(&[]);
         let words = named(self.rt.alloc(), form, given)?;
         let obeyed = self.obey_form(form, &words, out);
-        if let Err(Refused::Arguments) = obeyed {
-            put_near_arguments(self.rt, &mut self.errors, form, given)?;
+        if let (Err(Refused::Said), Form::Debug, Some(first)) = (&obeyed, form, given.first()) {
+            put_near_form(self.rt, &mut self.errors, first)?;
         }
         obeyed
     }

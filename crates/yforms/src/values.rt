@@ -22,20 +22,24 @@ pub fn is_given(matches: &ArgMatches<'_>, name: &str) -> bool {
     matches.get_str(name) == Some("true")
 }
 
+/// The dialect that a word names.
+fn dialect_in(word: &str) -> Result<Dialect, Refused> {
+    match word {
+        "auto" => Ok(Dialect::Seen),
+        "yacc" => Ok(Dialect::Yacc),
+        "bison" | "byacc" => Ok(Dialect::Bison),
+        _ => Err(Refused::Wrong("--dialect takes yacc, bison or auto")),
+    }
+}
+
 /// The grammar file, and how it is read.
 pub fn grammar_in<'a>(matches: &ArgMatches<'a>) -> Result<GrammarFile<'a>, Refused> {
     let path = value_of(matches, "grammar")?;
-    match matches.get_str("from") {
-        None => Ok(GrammarFile {
-            path,
-            dialect: Dialect::Yacc,
-        }),
-        Some("bison") => Ok(GrammarFile {
-            path,
-            dialect: Dialect::Bison,
-        }),
-        Some(_) => Err(Refused::Arguments),
-    }
+    let dialect = match matches.get_str("dialect") {
+        Some(word) => dialect_in(word)?,
+        None => Dialect::Seen,
+    };
+    Ok(GrammarFile { path, dialect })
 }
 
 /// The files of a language.
@@ -46,15 +50,17 @@ pub fn language_in<'a>(matches: &ArgMatches<'a>) -> Result<LanguageFiles<'a>, Re
     })
 }
 
-/// The number that a word is.
-fn number_in(word: &str) -> Result<usize, Refused> {
-    word.parse::<usize>().map_err(|_| Refused::Arguments)
-}
-
-/// The number that an option gives, where it is given.
-pub fn number_of(matches: &ArgMatches<'_>, name: &str) -> Result<Option<usize>, Refused> {
+/// The number that an option gives, where it is given; else this is wrong.
+pub fn number_of(
+    matches: &ArgMatches<'_>,
+    name: &str,
+    wrong: &'static str,
+) -> Result<Option<usize>, Refused> {
     match matches.get_str(name) {
-        Some(word) => number_in(word).map(Some),
+        Some(word) => match word.parse::<usize>() {
+            Ok(number) => Ok(Some(number)),
+            Err(_) => Err(Refused::Wrong(wrong)),
+        },
         None => Ok(None),
     }
 }
@@ -72,23 +78,29 @@ pub fn input_in<'a>(matches: &ArgMatches<'a>) -> Result<Limited<'a>, Refused> {
 
 /// How many bytes an input may have.
 pub fn most_of(matches: &ArgMatches<'_>) -> Result<u64, Refused> {
-    match number_of(matches, "limit")? {
+    match number_of(matches, "limit", "--limit takes a number of bytes")? {
         Some(most) => Ok(most as u64),
         None => Ok(LONGEST_INPUT),
     }
 }
 
-/// What stands after each `--from` of a page: `bison`, and a first position, each once at most.
-pub fn page_from(words: &[&str]) -> Result<(Dialect, usize), Refused> {
-    match words {
-        [] => Ok((Dialect::Yacc, 0)),
-        [word] if *word == "bison" => Ok((Dialect::Bison, 0)),
-        [word] => Ok((Dialect::Yacc, number_in(word)?)),
-        [word, number] | [number, word] if *word == "bison" => {
-            Ok((Dialect::Bison, number_in(number)?))
+/// The grammar file of a page, and the first position that it shows: `--from` has had both a dialect
+/// and a position, and each may be given once at most.
+pub fn page_in<'a>(matches: &ArgMatches<'a>) -> Result<(GrammarFile<'a>, usize), Refused> {
+    let mut file = grammar_in(matches)?;
+    let mut first = number_of(matches, "first", "--first takes a position")?;
+    let mut is_said = matches.get_str("dialect").is_some();
+    for word in matches.get_strs("from").unwrap_or(&[]) {
+        match (dialect_in(word), first) {
+            (Ok(dialect), _) if !is_said => {
+                file.dialect = dialect;
+                is_said = true;
+            }
+            (Err(_), None) if word.parse::<usize>().is_ok() => first = word.parse::<usize>().ok(),
+            _ => return Err(Refused::Wrong("--from takes a dialect and a position, each once")),
         }
-        _ => Err(Refused::Arguments),
     }
+    Ok((file, first.unwrap_or(0)))
 }
 
 /// The file of messages, where one is given.
@@ -105,22 +117,24 @@ pub fn kind_in(matches: &ArgMatches<'_>) -> Result<Kind, Refused> {
         None | Some("rules") => Ok(Kind::Rules),
         Some("states") => Ok(Kind::States),
         Some("actions") => Ok(Kind::Cells),
-        Some(_) => Err(Refused::Arguments),
+        Some(_) => Err(Refused::Wrong("--cover takes rules, states or actions")),
     }
 }
 
 /// How sentences are drawn, where that is asked for; options for one way alone stand without those
 /// for the other.
 pub fn drawn_in(matches: &ArgMatches<'_>) -> Result<Option<Drawn>, Refused> {
-    let (length, seed) = (number_of(matches, "length")?, number_of(matches, "seed")?);
+    let length = number_of(matches, "length", "--length takes a number of tokens")?;
+    let seed = number_of(matches, "seed", "--seed takes a number")?;
     let is_cover = matches.get_str("cover").is_some();
-    match number_of(matches, "random")? {
+    match number_of(matches, "random", "--random takes a number of sentences")? {
         Some(count) if !is_cover => Ok(Some(Drawn {
             count,
             length: length.unwrap_or(20) as u64,
             seed: seed.unwrap_or(1) as u64,
         })),
+        Some(_) => Err(Refused::Wrong("--random and --cover don't go together")),
         None if length.is_none() && seed.is_none() => Ok(None),
-        _ => Err(Refused::Arguments),
+        None => Err(Refused::Wrong("--length and --seed want --random N")),
     }
 }
