@@ -314,9 +314,9 @@ def try_long(count, driver, ydebug, room, shots):
         whole(browser, shots / "long.png")
     more, page = list_folder(room, MOST_STEPS // 2), room / "more.html"
     made = make_page(ydebug, more, ["grammar.y", "tokens"], page)
-    refused = made.returncode == 1 and "--from" in made.stderr and not page.exists()
+    refused = made.returncode == 1 and "--first" in made.stderr and not page.exists()
     count.hold("long: more are refused", refused, made.stderr)
-    made = make_page(ydebug, more, ["grammar.y", "tokens", "--from", "9000", "--to", "9010"], page)
+    made = make_page(ydebug, more, ["grammar.y", "tokens", "--first", "9000", "--last", "9010"], page)
     count.hold("long: a part is shown", made.returncode == 0, made.stderr)
     with Browser(driver) as browser:
         browser.go(page.as_uri())

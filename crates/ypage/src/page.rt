@@ -97,7 +97,7 @@ fn put_parse<F: Files + AllocGlobal, W: Write, E: Write>(
             writeln!(
                 errors,
                 "ydebug: there are more than {MOST_STEPS} steps, the most that one page shows; \
-                 choose a part with --from and --to, such as --from {from} --to {to}"
+                 choose a part with --first and --last, such as --first {from} --last {to}"
             )?;
             Ok(1)
         }
@@ -105,7 +105,7 @@ fn put_parse<F: Files + AllocGlobal, W: Write, E: Write>(
             let from = asked.part.from;
             writeln!(
                 errors,
-                "ydebug: the parse ends at position {end}, before --from {from}"
+                "ydebug: the parse ends at position {end}, before --first {from}"
             )?;
             Ok(1)
         }
@@ -133,7 +133,7 @@ pub fn run_page<F: Files + AllocGlobal, W: Write, E: Write>(
     }
     let Part { from, to } = asked.part;
     if let Some(to) = to.filter(|to| *to < from) {
-        writeln!(errors, "ydebug: --to {to} stands before --from {from}")?;
+        writeln!(errors, "ydebug: --last {to} stands before --first {from}")?;
         return Ok(2);
     }
     match source.open(errors)? {
