@@ -12,7 +12,7 @@ use yexplain::text::Bytes;
 use yfiles::diagnostic::{Diagnostic, Diagnostics};
 use yfiles::place::Place;
 use yforeign::directive::is_imported;
-use ygrammar::{Grammar, GrammarFault, PlacedFault};
+use ygrammar::{Grammar, GrammarFault, Mapped, PlacedFault, read_mapped};
 use ylalr::token_count;
 use ysymbols::names::{SymbolTable, intern};
 use ysyntax::{Mark, Role};
@@ -23,10 +23,15 @@ const MOST_NAMED: usize = 20;
 /// What helps with a file of bison.
 const FOREIGN: &str = "If the file is one of bison or byacc, ydebug import makes it one of yacc.";
 
+/// The name at a place of a file.
+fn name_at<'a>(map: &[Mark<'a>], at: usize) -> Option<&'a [u8]> {
+    let here = map.iter().find(|mark| mark.placed.at == at);
+    here.and_then(|mark| name_in(mark.placed.lexeme))
+}
+
 /// The nearest to the name at a place of those that are symbols of a file.
 fn nearest_symbol<'a>(alloc: Global, map: &[Mark<'a>], at: usize) -> Made<Option<&'a [u8]>> {
-    let here = map.iter().find(|mark| mark.placed.at == at);
-    let Some(wanted) = here.and_then(|mark| name_in(mark.placed.lexeme)) else {
+    let Some(wanted) = name_at(map, at) else {
         return Ok(None);
     };
     let mut search = Search::new(wanted);
@@ -60,7 +65,40 @@ pub fn ask(alloc: Global, one: &mut Diagnostic, name: &[u8]) -> io::Result<()> {
     Ok(one.help(note)?)
 }
 
-/// Says of which nonterminals but the first no list of tokens can be made.
+/// The names of a file that are neither tokens nor left sides: the first is at a place, and each
+/// other is found by reading the file again with a line that declares those before it.
+fn undefined_names(
+    alloc: Global,
+    source: &[u8],
+    marks: &[Mark<'_>],
+    at: usize,
+) -> Made<SymbolTable> {
+    let mut names = SymbolTable::new(alloc);
+    let mut text = Vec::from_slice(alloc, source)?;
+    intern(alloc, &mut names, name_at(marks, at).unwrap_or(b""))?;
+    for number in 0..=MOST_NAMED {
+        let mut more = Vec::from_slice(alloc, b"%token ")?;
+        more.extend_from_slice(names.get(number).unwrap_or(b""))?;
+        more.push(b'\n')?;
+        more.extend_from_slice(&text)?;
+        text = more;
+        match read_mapped(alloc, &text) {
+            Ok(
+                Mapped {
+                    grammar: Err(placed),
+                    marks,
+                    ..
+                },
+            ) if matches!(placed.fault, GrammarFault::Undefined { .. }) => {
+                intern(alloc, &mut names, name_at(&marks, placed.at).unwrap_or(b""))?;
+            }
+            _ => return Ok(names),
+        }
+    }
+    Ok(names)
+}
+
+/// Says of which names but the first a fault is too.
 fn say_others(alloc: Global, one: &mut Diagnostic, names: &SymbolTable) -> io::Result<()> {
     if names.len() < 2 {
         return Ok(());
@@ -134,10 +172,12 @@ fn help(
             }
             Ok(())
         }
-        GrammarFault::Undefined { .. } => match nearest_symbol(alloc, marks, at)? {
-            Some(name) => ask(alloc, one, name),
-            None => Ok(()),
-        },
+        GrammarFault::Undefined { .. } => {
+            if let Some(name) = nearest_symbol(alloc, marks, at)? {
+                ask(alloc, one, name)?;
+            }
+            say_others(alloc, one, &undefined_names(alloc, source, marks, at)?)
+        }
         GrammarFault::Unproductive { .. } => {
             say_others(alloc, one, &refusal.barren_names(alloc)?)
         }

@@ -1,0 +1,3 @@
+%token NUM
+%%
+s : NUM term 'x' OPEN s CLOSE | OPEN term NUM ;
