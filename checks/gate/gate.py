@@ -15,6 +15,8 @@ import sys
 import time
 from dataclasses import dataclass
 
+from checks.gate import mutants
+from checks.gate.beside import Beside
 from checks.gate.checking import repository
 from checks.gate.clock import Clock, table
 from checks.gate.lanes import lanes, words_of
@@ -85,8 +87,8 @@ def spent():
     return used.ru_utime + used.ru_stime
 
 
-def streamed(name, words):
-    """Runs a command, and passes its output on as it comes."""
+def streamed(name, words, look=lambda _: None):
+    """Runs a command, passes its output on as it comes, and shows each line to what looks."""
     last, skipped, before = "", [], spent()
     # A proof that is spread over several processors takes up to half as much time again.
     how = {"RT_JOBS": str(lanes()), **os.environ}
@@ -95,13 +97,28 @@ def streamed(name, words):
         clock = Clock(running.pid)
         for last in running.stdout:
             print(last, end="", flush=True)
+            look(last)
             skipped += [f"{name}: {last}"] if last.startswith(SKIPPED) else []
     proofs = clock.stop()
     return Ran(name, last, running.returncode, skipped, spent() - before, proofs)
 
 
-def result_of(name, words):
-    """What comes of a runner, or that it is skipped."""
+def waited_for(name, beside):
+    """What comes of a runner that has begun already."""
+    before = spent()
+    lines, status = beside.end()
+    print("".join(lines), end="", flush=True)
+    skipped = [f"{name}: {it}" for it in lines if it.startswith(SKIPPED)]
+    return Ran(name, lines[-1] if lines else "", status, skipped, spent() - before, [])
+
+
+def result_of(name, words, beside=None):
+    """What comes of a runner, or that it is skipped; the proofs are shown to one that may begin
+    beside them."""
+    if beside and name == PROOFS:
+        return streamed(name, words, beside.look)
+    if beside and beside.running and words == beside.words:
+        return waited_for(name, beside)
     need = NEEDS.get(name)
     if need and not shutil.which(need):
         line = f"{SKIPPED}there is no {need}\n"
@@ -145,13 +162,14 @@ def is_quickly_wrong(checks):
     return any(subprocess.run(words, cwd=TOP).returncode for words in checks)
 
 
-def run(quick, runners):
-    """Runs quick checks, and then runners, each a name and its words; the status of the gate."""
+def run(quick, runners, beside=None):
+    """Runs quick checks, and then runners, each a name and its words, of which one may begin beside
+    the proofs; the status of the gate."""
     begun, stolen_before, tally = time.monotonic(), stolen(), Tally()
     if is_quickly_wrong(quick):
         tally.add(0, 1)
         return tally.end()
-    results = [result_of(*it) for it in runners]
+    results = [result_of(*it, beside) for it in runners]
     for it in results:
         tally.add(*it.counted())
     tell_proofs(results)
@@ -160,7 +178,19 @@ def run(quick, runners):
     return tally.end()
 
 
+def mutants_beside():
+    """The mutants, which wait for the crates that they change, and for the libraries of those."""
+    repo = repository(TOP)
+    try:
+        crates = {it.crate for it in mutants.chosen(repo, [], False)}
+    except mutants.Bad:
+        return None
+    libraries = {repo.library(it) / "format" for name in crates for it in repo.crates[name].below}
+    return Beside(command(["mutants"]), crates, libraries)
+
+
 def main(_):
     """Runs the gate."""
     runners = [(words[0], command(words)) for words in RUNNERS]
-    return run(map(command, QUICK), [(PROOFS, ["rt", "ci"]), *runners])
+    proofs = PROOFS, ["rt", "ci"]
+    return run(map(command, QUICK), [proofs, *runners], mutants_beside())

@@ -93,6 +93,31 @@ class Gate(Planted):
                 _, said = self.said(lambda _, it=runner: gate.run([], [it]))
                 self.assertEqual(said.count("low                   3     50     40"), count)
 
+    def test_beside(self):
+        """A runner begins once what it waits for is proved and there, and is told in its turn."""
+        proofs = "print('rt: low proved'); print('rt: high is kept: it'); print('rt: last proved')"
+        words = python(f"print('it ran'); {WELL}")[1]
+        for crates, libraries, begins in (
+            ({"low", "high"}, [TOP / "README.md"], True),
+            ({"low", "other"}, [], False),
+            ({"low"}, [TOP / "no-such-file"], False),
+        ):
+            beside = gate.Beside(words, crates, libraries)
+            runners = ("proofs", python(f"{proofs}; {WELL}")[1]), ("mutants", words)
+            status, said = self.said(lambda _, it=(runners, beside): gate.run([], *it))
+            self.assertEqual((status, said.splitlines()[-1]), (0, "4 passed, 0 failed"))
+            self.assertEqual(said.count("it ran"), 1)
+            self.assertLess(said.index("rt: last"), said.index("it ran"))
+            self.assertEqual(bool(beside.running), begins)
+
+    def test_beside_fails(self):
+        """One that fails so, or says nothing, fails the gate."""
+        for text in ("print('0 passed, 1 failed')", "", f"{WELL}; raise SystemExit(1)"):
+            words = python(text)[1]
+            beside = gate.Beside(words, {"low"}, [])
+            runners = ("proofs", python(f"print('rt: low proved'); {WELL}")[1]), ("it", words)
+            self.assertEqual(self.said(lambda _, it=(runners, beside): gate.run([], *it))[0], 1)
+
     def test_needs(self):
         """A runner that can't be run here is skipped, and that is said."""
         with mock.patch.dict(gate.NEEDS, {"runner": "no-such-program"}):
