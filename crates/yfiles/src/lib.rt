@@ -1,15 +1,15 @@
 //! Files that a person names: read up to a limit, and written so that none is left cut off; and
 //! what is said of them.
 //!
-//! `place` counts lines and columns, and shows the text of a place. `diagnostic` has what is said,
-//! as values, and writes it for people. `reading` reads files and says which are too long, `same`
-//! tells whether an output is an input or
-//! another output, and `writing` writes a text beside its file and renames it when it is complete.
-//! `steady` has a writer whose failure doesn't end the work, and `arguments` the arguments of a
-//! program.
+//! `place` counts lines and columns, and shows the text of a place. `category` has the names of
+//! warnings, and `diagnostic` what is said, as values, and writes it for people. `reading` reads
+//! files and says which are too long, `same` tells whether an output is an input or another output,
+//! and `writing` writes a text beside its file and renames it when it is complete. `steady` has a
+//! writer whose failure doesn't end the work, and `arguments` the arguments of a program.
 #![tactic(auto)]
 
 pub mod arguments;
+pub mod category;
 pub mod diagnostic;
 pub mod place;
 pub mod reading;
