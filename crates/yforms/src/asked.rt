@@ -3,14 +3,15 @@
 use crate::ending::Refused;
 use crate::forms::Form;
 use crate::values::{
-    NO_FOLDER, drawn_in, grammar_in, input_in, is_given, kind_in, language_in, messages_in,
-    most_of, number_of, page_from, value_of,
+    NO_FOLDER, choice_in, drawn_in, grammar_in, input_in, is_given, kind_in, language_in,
+    messages_in, most_of, number_of, page_from, value_of,
 };
 use crate::{check, conflicts, cover, table};
 use clap::ArgMatches;
 use ybison::import;
 use ydiagnostics::checking;
 use ydiagnostics::format::{Format, NO_FORM, form_of};
+use yfiles::category::Choice;
 use yfiles::reading::Limited;
 use yinput::grammars::GrammarFile;
 use yinput::language::LanguageFiles;
@@ -53,10 +54,15 @@ pub enum Asked<'a> {
 
 /// A report on conflicts.
 fn conflicts_in<'m>(matches: &'m ArgMatches<'_>) -> Result<Asked<'m>, Refused> {
+    let choice = match choice_in(matches) {
+        Ok(choice) => choice,
+        Err(wrong) => return Ok(Asked::Wrong(wrong)),
+    };
     let asked = conflicts::Asked {
         grammar: grammar_in(matches)?,
         save: matches.get_str("save"),
-        strict: is_given(matches, "strict"),
+        strict: matches.get_str("strict").is_some(),
+        choice,
         expect: matches.get_str("expect"),
         accept: matches.get_str("accept"),
         update: is_given(matches, "update"),
@@ -71,12 +77,17 @@ fn conflicts_in<'m>(matches: &'m ArgMatches<'_>) -> Result<Asked<'m>, Refused> {
 /// Verdicts on inputs.
 fn check_in<'m>(matches: &'m ArgMatches<'_>) -> Result<Asked<'m>, Refused> {
     let format = form_of(matches.get_str("format"));
+    let choice = match choice_in(matches) {
+        Ok(choice) => choice,
+        Err(wrong) => return Ok(Asked::Wrong(wrong)),
+    };
     let asked = check::Asked {
         inputs: checking::Asked {
             files: language_in(matches)?,
             inputs: matches.get_strs("tokens").unwrap_or(&[]),
             messages: matches.get_str("messages"),
             most: most_of(matches)?,
+            shown: choice.shown,
             format: format.unwrap_or(Format::Text),
         },
         choice: is_given(matches, "choice"),
@@ -180,10 +191,17 @@ pub fn asked_in<'m>(form: Form, matches: &'m ArgMatches<'_>) -> Result<Asked<'m>
         Form::Sentences => sentences_in(matches),
         Form::Cover => cover_in(matches),
         Form::Page => page_in(matches),
-        Form::Import => Ok(Asked::Import(import::Asked {
-            file: value_of(matches, "file")?,
-            output: matches.get_str("output"),
-        })),
+        Form::Import => {
+            let (file, output) = (value_of(matches, "file")?, matches.get_str("output"));
+            Ok(match choice_in(matches) {
+                Ok(Choice { shown, .. }) => Asked::Import(import::Asked {
+                    file,
+                    output,
+                    shown,
+                }),
+                Err(wrong) => Asked::Wrong(wrong),
+            })
+        }
         Form::Tokens => {
             let (files, input) = (language_in(matches)?, input_in(matches)?);
             Ok(Asked::Tokens(files, input))

@@ -8,10 +8,10 @@ pub const USAGE: &str = "usage: ydebug grammar tokens [--lex SPEC]\n";
 
 /// The other forms, and what holds of all, as help and usage have them.
 pub const FORMS: &str = "Other forms:\n\
-    \x20 ydebug conflicts grammar [--save FOLDER] [--strict] [--expect N[,M]]\n\
+    \x20 ydebug conflicts grammar [--save FOLDER] [-WNAME] [--strict[=NAME]] [--expect N[,M]]\n\
     \x20     [--accept FILE [--update]] [--format FORM]\n\
     \x20 ydebug check grammar tokens.. [--lex SPEC] [--messages FILE] [--choice] [--plain]\n\
-    \x20     [--format FORM]\n\
+    \x20     [--format FORM] [-WNAME]\n\
     \x20 ydebug errors grammar [--lex SPEC]\n\
     \x20     [--messages FILE [--complete] [--update | --table OUT]]\n\
     \x20 ydebug sentences grammar [--lex SPEC] [--cover KIND] [--near] [--save FOLDER]\n\
@@ -22,7 +22,7 @@ pub const FORMS: &str = "Other forms:\n\
     \x20 ydebug page grammar tokens [--lex SPEC] [-o FILE] [--from K] [--to K] [--conflicts]\n\
     \x20 ydebug tokens grammar --lex SPEC input\n\
     \x20 ydebug lex-spec grammar\n\
-    \x20 ydebug import file [-o grammar]\n\
+    \x20 ydebug import file [-o grammar] [-WNAME]\n\
     \x20 ydebug rules grammar [--header FILE] [--python FILE]\n\
     \x20 ydebug table [-v] [-b PREFIX] grammar\n\
     With --from bison the grammar is a file of bison or byacc.\n\
@@ -113,11 +113,15 @@ const FORMAT: &str =
 
 const DEBUG: &[&str] = &[GRAMMAR, INPUT, LEX, LIMIT, FROM];
 
+const WARNINGS: &str = "-W NAME: Shows warnings of a category; with no- before NAME it doesn't";
+
 const CONFLICTS: &[&str] = &[
     GRAMMAR,
     "--save save: Writes the tokens of each conflict to a file of this folder",
     FROM,
-    "--strict: Ends with 1 where a conflict isn't accepted, or there is a warning",
+    WARNINGS,
+    "--strict NAME?: Ends with 1 where a conflict isn't accepted, or a warning is shown; with NAME \
+     one of this category",
     "--expect N: Accepts N shift/reduce conflicts; with N,M also M reduce/reduce ones",
     "--accept FILE: Accepts the conflicts that this file lists",
     "--update: Writes the list of accepted conflicts anew",
@@ -138,6 +142,7 @@ const CHECK: &[&str] = &[
     "--choice: Says whether the grammar is free of choices",
     "--plain: Writes a plain line for the grammar and for each input",
     FORMAT,
+    WARNINGS,
 ];
 
 const ERRORS: &[&str] = &[
@@ -197,6 +202,7 @@ const SKETCH: &[&str] = &[GRAMMAR, FROM];
 const IMPORT: &[&str] = &[
     "file: The file of bison or byacc",
     "-o output: Writes the grammar to this file",
+    WARNINGS,
 ];
 
 const RULES: &[&str] = &[
@@ -228,8 +234,8 @@ fn named<'a>(alloc: Global, name: &'static str, help: &'static str) -> Arg<'a> {
     Arg::new(alloc, name).action(ArgAction::Set).help(help)
 }
 
-/// An argument as clap has it. An option has a value, which with `!` is required and with dots may
-/// be given again; without one it is a flag. A name, and the one that help shows where that is
+/// An argument as clap has it. An option has a value, which with `!` is required, with dots may be
+/// given again, and with `?` may be left out and given again; without one it is a flag. A name, and the one that help shows where that is
 /// another, are a file, which is required, and with dots several; a letter after a dash has the name
 /// of its value, where it has one.
 fn argument<'a>(alloc: Global, wanted: &'static str) -> Arg<'a> {
@@ -237,6 +243,13 @@ fn argument<'a>(alloc: Global, wanted: &'static str) -> Arg<'a> {
     let (front, value) = spelled.split_once(' ').unwrap_or((spelled, ""));
     if let Some(name) = front.strip_prefix("--") {
         let arg = named(alloc, name, help).long(name);
+        if let Some(shown) = value.strip_suffix("?") {
+            let arg = arg.value_name(shown).action(ArgAction::Append);
+            return arg
+                .num_args(0..=1)
+                .require_equals(true)
+                .default_missing_value("");
+        }
         return match (value.strip_suffix("!"), value.strip_suffix("..")) {
             (Some(shown), _) => arg.value_name(shown).required(true),
             (_, Some(shown)) => arg.value_name(shown).action(ArgAction::Append),
@@ -249,6 +262,10 @@ fn argument<'a>(alloc: Global, wanted: &'static str) -> Arg<'a> {
             .short('v')
             .action(ArgAction::SetTrue),
         (Some("o"), _) => named(alloc, value, help).short('o'),
+        (Some("W"), _) => named(alloc, "W", help)
+            .short('W')
+            .value_name(value)
+            .action(ArgAction::Append),
         (Some(_), _) => named(alloc, value, help).short('b'),
         (None, Some(name)) => named(alloc, name, help).required(true).num_args(1..),
         (None, None) => {
