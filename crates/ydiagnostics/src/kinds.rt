@@ -180,12 +180,11 @@ impl Shown<'_> {
         alloc: Global,
         grammar: &Grammar,
         found: &Conflicts,
-        findings: &[Option<Finding>],
+        findings: &[Finding],
     ) -> Made<Vec<KindSheet>> {
         let mut sheets = Vec::new(alloc);
         for (kind, group) in &found.groups {
-            let finding = findings.get(sheets.len()).and_then(Option::as_ref);
-            let lists = match finding {
+            let lists = match findings.get(sheets.len()) {
                 Some(finding) => Some(list_sheets(alloc, grammar, finding)?),
                 None => None,
             };

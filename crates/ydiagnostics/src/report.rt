@@ -58,14 +58,14 @@ fn sheet_of(
 ) -> io::Result<ConflictSheet> {
     let counts = Counts::of(session.tables());
     let found = Conflicts::new(alloc, session.tables())?;
-    let (is_data, cells, others) = (asked.format == Format::Json, found.cells, found.others);
-    let common = if is_data {
+    let (cells, others) = (found.cells, found.others);
+    let common = if asked.format == Format::Json {
         causes_of(alloc, session.tables(), shown.lines, &found)?
     } else {
         None
     };
     let found = shown_of(alloc, found, asked.choice.shown)?;
-    let sought = sought_for(alloc, session, shown.lines, &found, is_data)?;
+    let sought = sought_for(alloc, session, shown.lines, &found)?;
     let scene = Scene {
         alloc,
         shown,

@@ -19,22 +19,20 @@ const MOST_SOUGHT: usize = 200;
 pub struct Sought {
     /// The conflicts, those of one state between the same rivals together.
     pub blocks: Blocks,
-    /// Lists for the first kinds, where they were sought.
-    pub findings: Vec<Option<Finding>>,
+    /// Lists for the first kinds.
+    pub findings: Vec<Finding>,
     /// Sentences for the first kind of each of the first blocks.
     pub answers: Vec<Vec<Answer>>,
     /// The trees of sentences.
     pub found: Ambiguities,
 }
 
-/// What is found for the conflicts of a session without tokens, as long as there are steps for it:
-/// lists for all kinds, or for the first one of each block alone.
+/// What is found for the conflicts of a session without tokens, as long as there are steps for it.
 pub fn sought_for(
     alloc: Global,
     session: &mut Session,
     lines: &Lines,
     conflicts: &Conflicts,
-    for_all: bool,
 ) -> io::Result<Sought> {
     let mut sought = Sought {
         blocks: blocks_of(alloc, session.tables(), lines, conflicts)?,
@@ -49,13 +47,8 @@ pub fn sought_for(
         conflicts,
         &mut sought.blocks,
     )?;
-    let most = if for_all {
-        MOST_SOUGHT
-    } else {
-        sought.blocks.kinds
-    };
     let mut seeker = Seeker::new(alloc, session)?;
-    for (kind, group) in conflicts.groups.iter().take(most) {
+    for (kind, group) in conflicts.groups.iter().take(MOST_SOUGHT) {
         if !seeker.finder.has_steps() {
             break;
         }
@@ -64,13 +57,9 @@ pub fn sought_for(
         let first = block
             .map(|block| block.first)
             .filter(|first| first.number == number);
-        let finding = if for_all || first.is_some() {
-            Some(seeker.find(kind, *group)?)
-        } else {
-            None
-        };
-        if let (Some(first), Some(finding)) = (first, &finding) {
-            let answers = answers_of(alloc, &mut seeker, &mut sought.found, &first, finding)?;
+        let finding = seeker.find(kind, *group)?;
+        if let Some(first) = first {
+            let answers = answers_of(alloc, &mut seeker, &mut sought.found, &first, &finding)?;
             sought.answers.push(answers).map_err(AllocError::from)?;
         }
         sought.findings.push(finding).map_err(AllocError::from)?;
@@ -82,7 +71,7 @@ impl Sought {
     /// What was found for the first kind of a block, by the place of the block.
     pub fn of(&self, place: usize) -> Option<(&Finding, &[Answer])> {
         let block: &Block = self.blocks.list.get(place)?;
-        let finding = self.findings.get(block.first.number)?.as_ref()?;
+        let finding = self.findings.get(block.first.number)?;
         let answers = self.answers.get(place)?.as_slice();
         Some((finding, answers))
     }
