@@ -3,7 +3,8 @@
     documents [ydebug=PATH] [--seconds N] [--seed N]
 
 The conflicts of each grammar of the scenarios, and of random ones: their counts, cells and kinds,
-their states, tokens, rules and counterexamples, the warnings, and each line as gcc has it. The
+their states, tokens, rules and counterexamples, their causes, the warnings, and each line as gcc
+has it. The
 numbers of conflicts in the report are the places of kinds in the document. Every place is looked up
 in the file: of rules, of conflicts, of warnings; and again in a file of bison, where names that an
 import takes out stand before it on its line. Then verdicts on random inputs, and faults of tokens
@@ -50,7 +51,9 @@ LEFT_SIDE = re.compile(
 IDLE = re.compile(r"useless %prec in rule \d+|%prec in rule \d+ may be useless")
 # What rules begin with, where the left side isn't told.
 SOME_RULE = r"[A-Za-z_.][\w.]*(?:\[\w+\])?\s*:|\|"
-FOREIGN = re.compile(r"foreign\.y:(\d+)(?::(\d+))?: \w+: (.*)")
+FOREIGN = re.compile(r"foreign\.y:(\d+)(?::(\d+))?: \w+: (.*?)(?: \[-W[a-z-]+\])?")
+NOTE = re.compile(r"grammar\.y:(\d+):(\d+): note: (.*)")
+RIVAL = re.compile(r"(?:not )?taken: (?:the shift in )?rule (\d+)  (.*)")
 # In the text of a grammar that was drawn: a left side, what a body begins with, a listed token.
 LEFT, FIRST, LISTED = (
     re.compile(it) for it in (r"(?m)^([a-z]+)(?= :)", r"([:|] [A-Za-z]+)", r"\b([A-Z]+)\b")
@@ -190,13 +193,46 @@ def wrong_columns(source, kinds):
     return next(filter(None, wrong), None)
 
 
-def wrong_heads(kinds, diagnostics):
-    """What is wrong with the places of conflicts: those of their first rules that aren't taken."""
-    for kind, told in zip(kinds, diagnostics):
-        first = first_lost(kind)
-        if (told["line"], told["column"]) != (first["line"], first["column"]):
-            return f"{first}, told {told}"
-    return None
+def wrong_head(cause, kinds, told):
+    """What is wrong with the place of a cause: it is that of the first rule that isn't taken."""
+    first = first_lost(kinds[cause["kinds"][0]])
+    fits = (told["line"], told["column"]) == (first["line"], first["column"])
+    fits = fits and told["category"] == cause["category"] and cause["loses"][0] == first["rule"]
+    return None if fits else f"{first}, told {told} and {cause}"
+
+
+def wrong_cause(cause, kinds):
+    """What is wrong with a cause beside its kinds."""
+    ours, states = [kinds[it] for it in cause["kinds"]], cause["states"]
+    fits = cause["tokens"] == [it["token"] for it in ours] and states == sorted(set(states))
+    for kind in ours:
+        lost = [it["rule"] for it in kind["rules"]][kind["taken"] == "reduce" :]
+        at = kind["state"], kind["states"], kind["last"]
+        fits = fits and lost == cause["loses"] and at == (states[0], len(states), states[-1])
+        fits = fits and cause["kind"] == f"{kind['taken']}/reduce"
+    taken = {it["action"] for it in cause["rivals"] if it["taken"]}
+    return None if fits and taken == {ours[0]["taken"]} else f"{ours}, told {cause}"
+
+
+def wrong_causes(found, diagnostics):
+    """What is wrong with the causes: each kind stands in one, and each cause has its place."""
+    causes, kinds = found["causes"], found["kinds"]
+    told = [at for cause in causes for at in cause["kinds"]]
+    if sorted(told) != list(range(len(told))) or (len(told) < len(kinds) and len(told) < 200):
+        return f"kinds {sorted(told)}, told {len(kinds)}"
+    wrong = [wrong_head(cause, kinds, it) for cause, it in zip(causes, diagnostics)]
+    return next(filter(None, [*wrong, *(wrong_cause(it, kinds) for it in causes)]), None)
+
+
+def wrong_notes(lines, found):
+    """What is wrong with notes on rivals: each stands at its rule."""
+    rivals = [it for cause in found["causes"] for it in cause["rivals"]]
+    notes = [it for it in map(NOTE.fullmatch, lines) if it and RIVAL.fullmatch(it[3])]
+    told = [(int(it[1]), int(it[2]), *RIVAL.fullmatch(it[3]).groups()) for it in notes]
+    wanted = [(it["line"], it["column"], str(it["rule"]), it["text"]) for it in rivals]
+    fits = len(told) == len(wanted)
+    fits = fits and all(a == b or b[0] is None for a, b in zip(told, wanted))
+    return None if fits else f"rivals {wanted}, told {told}"
 
 
 def front_in(message):
@@ -225,11 +261,18 @@ def wrong_warnings(text, diagnostics):
 
 
 def lines_of(diagnostics):
-    """Diagnostics as gcc has them."""
+    """Diagnostics as gcc has them, but for the places of notes."""
     for it in diagnostics:
         front = ":".join(str(it[at]) for at in ("file", "line", "column") if it[at] is not None)
-        yield f"{front}: {it['severity']}: {it['message']}"
-        yield from (f"{front}: note: {note}" for note in it["notes"])
+        category = f" [-W{it['category']}]" if it["category"] else ""
+        yield f"{front}: {it['severity']}: {it['message']}{category}"
+        yield from (f"note: {note}" for note in it["notes"])
+
+
+def without_places(line):
+    """A line, without its place where it is a note of a grammar file."""
+    found = NOTE.fullmatch(line)
+    return f"note: {found[3]}" if found else line
 
 
 def wrong_conflicts(source, text, found, diagnostics):
@@ -238,7 +281,7 @@ def wrong_conflicts(source, text, found, diagnostics):
     if kinds and kinds[0]["lists"] is None:
         return f"no lists: {kinds[0]}"
     wrong = wrong_counts(text, found) or wrong_columns(source, kinds)
-    wrong = wrong or wrong_heads(kinds, diagnostics) or wrong_spots(source, diagnostics)
+    wrong = wrong or wrong_causes(found, diagnostics) or wrong_spots(source, diagnostics)
     wrong = wrong or wrong_warnings(text, diagnostics) or wrong_places(parts, kinds, text)
     return wrong or next(filter(None, (wrong_block(it, kinds) for it in parts)), None)
 
@@ -249,11 +292,12 @@ def differences(source, text, document, lines):
     diagnostics = made["diagnostics"]
     if made["version"] != VERSION or made["form"] != "conflicts" or made["inputs"] is not None:
         return f"no document on conflicts: {document}"
-    if list(lines_of(diagnostics)) != lines.splitlines():
+    if list(lines_of(diagnostics)) != list(map(without_places, lines.splitlines())):
         return f"lines: {lines}"
     if made["conflicts"] is None:
         return None if diagnostics and not text else f"no conflicts: {document}"
-    return wrong_conflicts(source, text, made["conflicts"], diagnostics)
+    wrong = wrong_notes(lines.splitlines(), made["conflicts"])
+    return wrong or wrong_conflicts(source, text, made["conflicts"], diagnostics)
 
 
 def wrong_report(ydebug, room):

@@ -225,7 +225,9 @@ class Documents(Planted):
         look = lambda it: documents.wrong_columns(source, [{"rules": [rule | it]}])
         self.each_caught(look, {}, {"column": 2}, {"column": None}, {"line": 3})
         kind = {"taken": "shift", "rules": [rule]}
-        look = lambda it: documents.wrong_heads([kind], [rule | it])
+        cause = {"kinds": [0], "category": "conflicts-sr", "loses": [3]}
+        told = rule | {"category": "conflicts-sr"}
+        look = lambda it: documents.wrong_head(cause, [kind], told | it)
         self.each_caught(look, {}, {"column": 4}, {"line": 3})
         look = lambda it: documents.wrong_front(f"grammar.y:{it}: warning: conflict 1: ", kind)
         self.each_caught(look, "4:3", "4:4", "3:3", "4")

@@ -3,6 +3,7 @@
 use std::alloc::Global;
 use yexplain::lines::Spot;
 use yexplain::reads::Made;
+use yfiles::category::Category;
 use ysymbols::let_go;
 use ysymbols::names::{SymbolTable, intern, is_among, number_in};
 
@@ -16,12 +17,14 @@ pub struct Conflict {
     pub taken: Vec<u8>,
     /// The item that isn't.
     pub other: Vec<u8>,
+    /// Its category, where it is one of the grammar.
+    pub category: Option<Category>,
 }
 
 impl Drop for Conflict {
     // A call in each owner, which keeps their proofs short.
     fn drop(self) {
-        let_go!(self: Conflict { spot, token, taken, other });
+        let_go!(self: Conflict { spot, token, taken, other, category });
     }
 }
 
@@ -33,6 +36,7 @@ impl Conflict {
             token: Vec::from_slice(alloc, &self.token)?,
             taken: Vec::from_slice(alloc, &self.taken)?,
             other: Vec::from_slice(alloc, &self.other)?,
+            category: self.category,
         })
     }
 

@@ -5,6 +5,7 @@ use std::alloc::Global;
 use std::io::{self, Write};
 pub use ybison::compared::Counts;
 use ybison::notes::Source;
+use yfiles::category::Category;
 use yfiles::diagnostic::{Diagnostic, Diagnostics, Severity};
 use yimport::symbols::Expected;
 
@@ -31,8 +32,11 @@ pub fn numbers_in(word: &str) -> Option<Counts> {
     })
 }
 
-/// A kind of conflict: its word in a file, and its name.
-const KINDS: [(&str, &str); 2] = [("%expect", "shift/reduce"), ("%expect-rr", "reduce/reduce")];
+/// A kind of conflict: its word in a file, its name, and its category.
+const KINDS: [(&str, &str, Category); 2] = [
+    ("%expect", "shift/reduce", Category::ConflictsSr),
+    ("%expect-rr", "reduce/reduce", Category::ConflictsRr),
+];
 
 /// Tells where the numbers of an option aren't those that were counted, and says whether they are.
 fn is_given(
@@ -46,13 +50,15 @@ fn is_given(
         shift_reduce: shifts,
         reduce_reduce: reduces,
     } = given;
-    for (kind, wanted, counted) in [
-        ("shift/reduce", shifts, found.shift_reduce),
-        ("reduce/reduce", reduces, found.reduce_reduce),
+    let (sr, rr) = (Category::ConflictsSr, Category::ConflictsRr);
+    for (kind, wanted, counted, category) in [
+        ("shift/reduce", shifts, found.shift_reduce, sr),
+        ("reduce/reduce", reduces, found.reduce_reduce, rr),
     ] {
         if wanted != counted {
             let mut one = Diagnostic::new(alloc, Some(path), None)?;
             one.severity = Severity::Warning;
+            one.category = Some(category);
             write!(
                 one.message,
                 "--expect {shifts},{reduces}: {kind} conflicts: {counted}"
@@ -95,14 +101,16 @@ impl Compared {
         if self.wanted.is_some() && self.is_bison {
             return Ok(());
         }
-        let (word, kind) = KINDS.get(self.kind).copied().unwrap_or(("", ""));
+        let unknown = ("", "", Category::Other);
+        let (word, kind, category) = KINDS.get(self.kind).copied().unwrap_or(unknown);
         let mut one = Diagnostic::new(alloc, Some(source.path), Some(source.spot(span)))?;
         one.severity = Severity::Warning;
+        one.category = Some(category);
         if self.wanted.is_some() {
             write!(one.message, "{word} {number}: {kind} conflicts: {counted}")?;
         } else {
             let other = KINDS.get(1_usize.saturating_sub(self.kind));
-            let other_word = other.map_or("", |(word, _)| *word);
+            let other_word = other.map_or("", |(word, _, _)| *word);
             let as_bison = if self.is_bison {
                 ", as bison counts them"
             } else {

@@ -9,6 +9,7 @@ use yexplain::lines::{Lines, Spot};
 use yexplain::reads::{
     Made, body_of, candidates_of, conflicts_of, grammar_of, items_of, name_of, next_of, shift_of,
 };
+use yfiles::category::Category;
 use ysymbols::Sym;
 use ytables::{Class, Tables};
 
@@ -115,11 +116,17 @@ fn conflict_of(
 ) -> io::Result<Conflict> {
     let grammar = grammar_of(tables);
     let other = (pair.other, body_of(grammar, pair.other).len());
+    let is_shift = pair.taken.1 < body_of(grammar, pair.taken.0).len();
     Ok(Conflict {
         spot: lines.spot(pair.other).unwrap_or(Spot::of_line(1)),
         token: Vec::from_slice(alloc, name_of(grammar, pair.token))?,
         taken: hosts.text(alloc, grammar, pair.taken)?,
         other: hosts.text(alloc, grammar, other)?,
+        category: Some(if is_shift {
+            Category::ConflictsSr
+        } else {
+            Category::ConflictsRr
+        }),
     })
 }
 

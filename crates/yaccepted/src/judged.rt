@@ -137,6 +137,7 @@ fn listed_conflict(
     conflict: &Conflict,
 ) -> io::Result<Diagnostic> {
     let mut one = Diagnostic::new(alloc, Some(path), Some(conflict.spot))?;
+    one.category = conflict.category;
     let token = Bytes(&conflict.token);
     write!(one.message, "{front}conflict on {token}")?;
     for item in [&conflict.taken, &conflict.other] {

@@ -199,6 +199,7 @@ impl Reader {
             token: Vec::from_slice(self.alloc, &self.token)?,
             taken: Vec::from_slice(self.alloc, &self.taken)?,
             other: Vec::from_slice(self.alloc, item)?,
+            category: None,
         };
         if let Some(before) = self.line_of(&conflict)? {
             return Err(Trouble::Wrong(number, Why::Twice(before)));

@@ -7,6 +7,7 @@ use std::alloc::Global;
 use std::io::{self, Write};
 use yexplain::lines::{Lines, Spot};
 use yexplain::text::{Name, Numbered, RuleText};
+use yfiles::category::Category;
 use yfiles::diagnostic::{Diagnostic, Diagnostics, Severity};
 use yforeign::lexeme::Span;
 use yimport::symbols::Ended;
@@ -193,6 +194,7 @@ pub fn add_cells(
         if count > 0 {
             let mut one = Diagnostic::new(alloc, Some(path), None)?;
             one.severity = Severity::Warning;
+            one.category = Some(Category::Yacc);
             write!(one.message, "{what}: {count}")?;
             told.add(one)?;
         }

@@ -2,7 +2,7 @@
 
 use crate::cell_text::{CellText, add_cells};
 use crate::compared::{Compared, Counts, Other};
-use crate::notes::{Source, Telling, add_expected, add_notes};
+use crate::notes::{Source, Telling, add_expected, add_notes, shown};
 use crate::opening::{Origin, open_bytes};
 use crate::peer::Peer;
 use std::alloc::Global;
@@ -11,6 +11,7 @@ use std::rt::Files;
 use yexplain::lines::is_inner;
 use yexplain::reads::{Made, grammar_of};
 use yfaults::opening::{Opened, Trouble, add_trouble, grammar_bytes};
+use yfiles::category::{Categories, Category};
 use yfiles::diagnostic::{Diagnostic, Diagnostics, Severity};
 use yfiles::place::Place;
 use yfiles::reading::unread;
@@ -37,6 +38,8 @@ pub struct Asked<'a> {
     pub file: &'a str,
     /// The path to which the import goes; `None` for standard output.
     pub output: Option<&'a str>,
+    /// Which warnings are shown.
+    pub shown: Categories,
 }
 
 /// A file, what it becomes, and which changes are written.
@@ -74,6 +77,7 @@ fn add_changes(
     if let Some(text) = text {
         let mut one = text.conflict(alloc)?;
         one.severity = Severity::Warning;
+        one.category = Some(Category::Yacc);
         told.add(one)?;
     }
     add_cells(alloc, told, source.path, found)?;
@@ -175,6 +179,9 @@ fn add_refused(
 ) -> io::Result<()> {
     let (path, source, at) = (source.path, source.bytes, refused.span.from);
     let mut one = Diagnostic::at(alloc, Place { path, source, at }, true)?;
+    let (word, dots) = shown(source, at, refused.span.to);
+    one.subject.extend_from_slice(word)?;
+    one.subject.extend_from_slice(dots.as_bytes())?;
     one.say(refused.refusal.text())?;
     Ok(told.add(one)?)
 }
@@ -246,7 +253,7 @@ pub fn run_import<F: Files + AllocGlobal, W: Write, E: Write>(
     }
     let mut told = Diagnostics::new(rt.alloc());
     let imported = imported_of(rt, &mut told, asked.file)?;
-    told.put(errors, "ydebug")?;
+    told.only(rt.alloc(), asked.shown)?.put(errors, "ydebug")?;
     match imported {
         Ok(imported) => put_output(rt, asked.output, &imported.text, out, errors),
         Err(status) => Ok(status),

@@ -3,11 +3,12 @@
 use crate::compared::Counts;
 use std::alloc::Global;
 use std::io::{self, Write};
+use yfiles::category::Category;
 use yfiles::diagnostic::{Diagnostic, Diagnostics, Severity};
 use yfiles::place::{Place, Spot};
 use yforeign::lexeme::Span;
 use yimport::import::Imported;
-use yimport::note::{Effect, How};
+use yimport::note::{Effect, How, Reason};
 use yimport::symbols::Expected;
 
 /// The most bytes of the file that a line shows.
@@ -35,7 +36,7 @@ impl Source<'_> {
 }
 
 /// The bytes of a place as they are shown: those of its first line, and dots for more.
-fn shown(source: &[u8], from: usize, to: usize) -> (&[u8], &'static str) {
+pub fn shown(source: &[u8], from: usize, to: usize) -> (&[u8], &'static str) {
     let text = source.get(from..to).unwrap_or(&[]);
     let line = text
         .iter()
@@ -93,6 +94,14 @@ pub enum Telling {
     Weighty,
 }
 
+/// The category of a change, as bison has it for what is changed.
+fn category_of(reason: Reason) -> Category {
+    match reason {
+        Reason::MadeName | Reason::MadeSign => Category::DanglingAlias,
+        _ => Category::Yacc,
+    }
+}
+
 /// Tells the changes, and whether conflicts stay with them.
 pub fn add_notes(
     alloc: Global,
@@ -107,6 +116,7 @@ pub fn add_notes(
         if telling == Telling::All || !matches!(effect, Effect::None) {
             let mut one = at_span(alloc, source, note.span)?;
             one.severity = Severity::Warning;
+            one.category = Some(category_of(note.reason));
             say_how(&mut one, &imported.texts, note.how)?;
             let (why, effect) = (note.reason.text(), effect.text(conflicts_stay));
             write!(one.message, "; {why}; {effect}")?;
@@ -125,9 +135,16 @@ pub fn add_expected(
     counts: Counts,
 ) -> io::Result<()> {
     let (shifts, reduces) = (imported.shift_reduce, imported.reduce_reduce);
-    for (expected, word, kind, found) in [
-        (shifts, "%expect", "shift/reduce", counts.shift_reduce),
-        (reduces, "%expect-rr", "reduce/reduce", counts.reduce_reduce),
+    let (sr, rr) = (Category::ConflictsSr, Category::ConflictsRr);
+    for (expected, word, kind, found, category) in [
+        (shifts, "%expect", "shift/reduce", counts.shift_reduce, sr),
+        (
+            reduces,
+            "%expect-rr",
+            "reduce/reduce",
+            counts.reduce_reduce,
+            rr,
+        ),
     ] {
         let Some(Expected { span, number }) = expected else {
             continue;
@@ -136,6 +153,7 @@ pub fn add_expected(
             let spot = Some(source.spot(span));
             let mut one = Diagnostic::new(alloc, Some(source.path), spot)?;
             one.severity = Severity::Warning;
+            one.category = Some(category);
             write!(
                 one.message,
                 "{word} {number}: {kind} conflicts, as bison counts them: {found}"

@@ -4,12 +4,12 @@ use std::alloc::Global;
 use std::collections::HashMap;
 use yexplain::lines::{Lines, Spot};
 use yexplain::reads::{
-    Made, candidates_of, conflicts_of, items_of, next_of, rivals_in, set, shift_of,
+    Made, candidates_of, conflict_of, conflicts_of, items_of, next_of, rivals_in, set, shift_of,
 };
 use yexplain::why::Question;
 use ylalr::Automaton;
 use ysymbols::Sym;
-use ytables::{Class, Tables};
+use ytables::{Class, Conflict, Tables};
 
 /// The most rivals that are shown; kinds are compared by these.
 pub const MOST_RIVALS: usize = 10;
@@ -59,6 +59,29 @@ pub struct Conflicts {
 }
 
 impl Kind {
+    /// That of a conflict of a state.
+    fn of(tables: &Tables, state: usize, conflict: Conflict) -> Kind {
+        Kind {
+            token: conflict.token,
+            shifted: shifted(tables.automaton(), state, conflict.token),
+            shift: conflict.shift_reduce > 0,
+            rivals: rivals_in(conflict),
+            rules: first_rules(tables, state, conflict.token),
+        }
+    }
+
+    /// The states that have it, of which these are known.
+    pub fn states(&self, alloc: Global, tables: &Tables, group: Group) -> Made<Vec<usize>> {
+        let mut states = Vec::new(alloc);
+        for state in group.state..=group.last {
+            let conflict = conflict_of(tables, state, self.token);
+            if conflict.is_some_and(|it| Kind::of(tables, state, it) == *self) {
+                states.push(state)?;
+            }
+        }
+        Ok(states)
+    }
+
     /// The first cell of the kind.
     pub fn cell<'a>(&self, group: Group, tables: &'a Tables, lines: &'a Lines) -> Question<'a> {
         Question {
@@ -140,15 +163,7 @@ impl Conflicts {
                     found.others = found.others.saturating_add(1);
                     continue;
                 }
-                let token = conflict.token;
-                let kind = Kind {
-                    token,
-                    shifted: shifted(tables.automaton(), state, token),
-                    shift: conflict.shift_reduce > 0,
-                    rivals: rivals_in(*conflict),
-                    rules: first_rules(tables, state, token),
-                };
-                found.note(kind, state)?;
+                found.note(Kind::of(tables, state, *conflict), state)?;
             }
         }
         Ok(found)

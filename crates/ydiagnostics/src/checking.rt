@@ -8,6 +8,7 @@ use std::alloc::{AllocError, Global};
 use std::io::{self, Read, Write};
 use std::rt::Files;
 use yexplain::reads::Made;
+use yfiles::category::Categories;
 use yfiles::diagnostic::{Diagnostics, Severity};
 use yfiles::reading::{Limited, all_bytes};
 use yinput::language::LanguageFiles;
@@ -24,6 +25,8 @@ pub struct Asked<'a> {
     pub messages: Option<&'a str>,
     /// The most bytes of an input.
     pub most: u64,
+    /// Which warnings are shown.
+    pub shown: Categories,
     /// The form of what is said.
     pub format: Format,
 }
@@ -84,16 +87,17 @@ impl<'a> Asked<'a> {
     fn put<W: Write>(
         self,
         alloc: Global,
-        told: &'a Diagnostics,
+        told: Diagnostics,
         inputs: Option<&'a [InputSheet]>,
         status: u8,
         out: &mut W,
     ) -> io::Result<u8> {
+        let told = told.only(alloc, self.shown)?;
         let said = Said {
             form: "check",
             grammar: self.files.grammar.path,
             status,
-            told,
+            told: &told,
             conflicts: None,
             inputs,
         };
@@ -116,7 +120,7 @@ pub fn run_checking<F: Files + AllocGlobal, R: Read, W: Write>(
         Ok(messaged) => messaged,
         Err(status) => {
             told.judge(0, Severity::Error);
-            return asked.put(alloc, &told, None, status, out);
+            return asked.put(alloc, told, None, status, out);
         }
     };
     let (mut sheets, mut status) = (Vec::new(alloc), 0);
@@ -125,5 +129,5 @@ pub fn run_checking<F: Files + AllocGlobal, R: Read, W: Write>(
         sheets.push(sheet).map_err(AllocError::from)?;
         status = ended.max(status);
     }
-    asked.put(alloc, &told, Some(&sheets), status, out)
+    asked.put(alloc, told, Some(&sheets), status, out)
 }

@@ -1,5 +1,7 @@
 //! All that is said, as lines or as one document.
 
+use crate::causes::CauseSheet;
+use crate::common::CommonSheet;
 use crate::format::Format;
 use crate::inputs::InputSheet;
 use crate::kinds::KindSheet;
@@ -27,13 +29,17 @@ pub struct ConflictSheet {
     pub kinds: Vec<KindSheet>,
     /// How many cells belong to none of them.
     pub others: usize,
+    /// The kinds of one state between the same rivals that are settled in one way.
+    pub causes: Vec<CauseSheet>,
+    /// What they have in common, where that was sought.
+    pub common: Option<CommonSheet>,
 }
 
 impl Drop for ConflictSheet {
     // A call in each owner, which keeps their proofs short.
     fn drop(self) {
         let_go!(self: ConflictSheet {
-            shift_reduce, reduce_reduce, cells, accepted, kinds, others
+            shift_reduce, reduce_reduce, cells, accepted, kinds, others, causes, common
         });
     }
 }

@@ -1,20 +1,15 @@
 //! Conflicts, each kind with its rules and with lists of tokens that get there.
 
 use serde::Serialize;
-use std::alloc::{AllocError, Global};
-use std::io::{self, Write};
-use ycounterexample::finding::{Allows, Finding, List, Seeker};
+use std::alloc::Global;
+use ycounterexample::finding::{Allows, Finding, List};
 use ycounterexample::groups::{Conflicts, Group, Kind};
 use ycounterexample::trial::Trial;
 use yexplain::lines::Lines;
-use yexplain::reads::{Made, grammar_of};
+use yexplain::reads::Made;
 use yexplain::text::{Name, RuleText};
-use yfiles::diagnostic::{Diagnostic, Diagnostics, Severity};
-use yparse::Session;
+use yfiles::diagnostic::Severity;
 use ysymbols::{Grammar, Sym, let_go};
-
-/// The most kinds for which lists are sought.
-const MOST_SOUGHT: usize = 200;
 
 /// A rule: its number, its place and its text.
 #[derive(Serialize)]
@@ -86,10 +81,12 @@ pub struct Shown<'a> {
     pub path: &'a str,
     /// How bad a conflict is.
     pub severity: Severity,
+    /// Whether the text that was read is that of the file.
+    pub is_plain: bool,
 }
 
 /// The name of a symbol.
-fn named(alloc: Global, grammar: &Grammar, symbol: Sym) -> Made<String> {
+pub fn named(alloc: Global, grammar: &Grammar, symbol: Sym) -> Made<String> {
     let name = Name(grammar, symbol);
     format!(in alloc; "{name}")
 }
@@ -176,86 +173,23 @@ impl Shown<'_> {
         })
     }
 
-    /// The kinds of conflicts of a session without tokens, in the order of their states.
+    /// Kinds of conflicts in the order of their states, with the lists that were found for each of
+    /// the first ones.
     pub fn kind_sheets(
         self,
         alloc: Global,
-        session: &mut Session,
+        grammar: &Grammar,
         found: &Conflicts,
-    ) -> io::Result<Vec<KindSheet>> {
+        findings: &[Finding],
+    ) -> Made<Vec<KindSheet>> {
         let mut sheets = Vec::new(alloc);
-        let mut seeker = Seeker::new(alloc, session)?;
-        let mut is_sought = true;
         for (kind, group) in &found.groups {
-            is_sought = is_sought && sheets.len() < MOST_SOUGHT && seeker.finder.has_steps();
-            let lists = if is_sought {
-                let finding = seeker.find(kind, *group)?;
-                let tables = seeker.session.tables();
-                let grammar = grammar_of(tables);
-                Some(list_sheets(alloc, grammar, &finding)?)
-            } else {
-                None
+            let lists = match findings.get(sheets.len()) {
+                Some(finding) => Some(list_sheets(alloc, grammar, finding)?),
+                None => None,
             };
-            let tables = seeker.session.tables();
-            let grammar = grammar_of(tables);
-            let sheet = self.kind_sheet(alloc, grammar, (kind, *group), lists)?;
-            sheets.push(sheet).map_err(AllocError::from)?;
+            sheets.push(self.kind_sheet(alloc, grammar, (kind, *group), lists)?)?;
         }
         Ok(sheets)
-    }
-}
-
-/// Writes what is taken, and in how many states.
-fn put_taken<W: Write>(
-    out: &mut W,
-    grammar: &Grammar,
-    (kind, group): (&Kind, Group),
-) -> io::Result<()> {
-    let (name, state) = (Name(grammar, kind.token), group.state);
-    let what = if kind.shift { "shift" } else { "reduce" };
-    write!(out, "{what}/reduce conflict on {name} in state {state}")?;
-    match group.states.saturating_sub(1) {
-        0 => {}
-        1 => write!(out, " and 1 more")?,
-        more => write!(out, " and {more} more")?,
-    }
-    match kind.taken() {
-        Some(rule) => write!(out, ": rule {rule} is taken"),
-        None => write!(out, ": the shift is taken"),
-    }
-}
-
-impl Shown<'_> {
-    /// A kind as what is said of the first rule that isn't taken.
-    fn diagnostic(
-        self,
-        alloc: Global,
-        grammar: &Grammar,
-        cells: (&Kind, Group),
-    ) -> io::Result<Diagnostic> {
-        let spot = cells.0.spot(self.lines);
-        let mut one = Diagnostic::new(alloc, Some(self.path), spot)?;
-        one.severity = self.severity;
-        put_taken(&mut one.message, grammar, cells)?;
-        for (place, rule) in cells.0.others().iter().enumerate() {
-            let front = if place == 0 { ", not" } else { " nor" };
-            let shown = RuleText(grammar, *rule);
-            write!(one.message, "{front} rule {rule} ({shown})")?;
-        }
-        Ok(one)
-    }
-
-    /// Tells the kinds likewise, in the order of their states.
-    pub fn add_told(
-        self,
-        alloc: Global,
-        told: &mut Diagnostics,
-        grammar: &Grammar,
-        found: &Conflicts,
-    ) -> io::Result<()> {
-        for (kind, group) in &found.groups {
-            told.add(self.diagnostic(alloc, grammar, (kind, *group))?)?;
-        }
-        Ok(())
     }
 }

@@ -1,16 +1,22 @@
 //! What `ydebug conflicts` and `ydebug check` say, for editors and other programs: lines as a C
 //! compiler writes them, or one document in JSON.
 //!
-//! `format` has the forms, and `sheet` what is said of a place. `kinds` has the conflicts, `inputs`
-//! the verdicts, `messaged` the messages for them, and `document` writes all of it. `report` and
-//! `checking` are the runs.
+//! `format` has the forms, and `sheet` what is said of a place. `kinds` has the conflicts, `causes`
+//! those that are alike, with what `sought` finds for them and with the `hints` on them, `told` says
+//! them in words, and `common` has what many have in common. `inputs` has the verdicts, `messaged`
+//! the messages for them, and `document` writes all of it. `report` and `checking` are the runs.
 #![tactic(auto)]
 
+mod causes;
 pub mod checking;
+mod common;
 mod document;
 pub mod format;
+mod hints;
 mod inputs;
 mod kinds;
 pub mod messaged;
 pub mod report;
 mod sheet;
+mod sought;
+mod told;

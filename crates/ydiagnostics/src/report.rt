@@ -1,19 +1,25 @@
 //! `ydebug conflicts` for programs.
 
+use crate::causes::Scene;
+use crate::common::common_sheet;
 use crate::document::{ConflictSheet, Said};
 use crate::format::Format;
 use crate::kinds::Shown;
+use crate::sought::sought_for;
 use std::alloc::Global;
 use std::io::{self, Write};
 use std::rt::Files;
-use yaccepted::expected::Counts;
+use yaccepted::expected::{Counts, Expectation};
 use yaccepted::judged::{self, Judged, Telling, judge};
 use yaccepted::opening::{Counted, File, open_counted};
 use ycounterexample::groups::Conflicts;
 use yexplain::reads::grammar_of;
 use yfaults::opening::Opened;
+use yfiles::category::Choice;
 use yfiles::diagnostic::{Diagnostics, Severity};
 use yparse::Session;
+use yreports::blocks::shown_of;
+use yreports::causes::causes_of;
 use yreports::warnings::warnings_of;
 use ysearch::trial::empty_session;
 
@@ -24,30 +30,10 @@ pub struct Asked<'a> {
     pub file: File<'a>,
     /// Which conflicts are accepted.
     pub accepted: judged::Asked<'a>,
-    /// Whether a conflict that isn't accepted, or a warning, makes the status 1.
-    pub strict: bool,
+    /// Which conflicts and warnings are shown, and which make the status 1.
+    pub choice: Choice,
     /// The form of what is said.
     pub format: Format,
-}
-
-impl<'a> Asked<'a> {
-    /// How bad a warning is.
-    fn severity(self) -> Severity {
-        if self.strict {
-            Severity::Error
-        } else {
-            Severity::Warning
-        }
-    }
-
-    /// How bad a conflict is. Where there is a list, what it hasn't is reported by itself.
-    fn conflict_severity(self, judged: &Judged) -> Severity {
-        match judged.is_accepted() {
-            Some(true) => Severity::Note,
-            _ if judged.listed.is_some() => Severity::Note,
-            _ => self.severity(),
-        }
-    }
 }
 
 /// What is said, with this exit status and without conflicts.
@@ -62,89 +48,75 @@ fn said<'a>(asked: Asked<'a>, status: u8, told: &'a Diagnostics) -> Said<'a> {
     }
 }
 
-/// Tells the warnings, and says whether there are some.
-fn add_warnings(
-    alloc: Global,
-    told: &mut Diagnostics,
-    asked: Asked<'_>,
-    opened: &Opened,
-) -> io::Result<bool> {
-    let before = told.all.len();
-    let warnings = warnings_of(alloc, asked.file.path, &opened.tables, &opened.lines)?;
-    told.take(warnings)?;
-    told.judge(before, asked.severity());
-    Ok(told.all.len() > before)
-}
-
-/// The conflicts of a session without tokens.
+/// Tells the conflicts of a session without tokens that are shown, and gives them as data.
 fn sheet_of(
     alloc: Global,
+    told: &mut Diagnostics,
+    (asked, shown): (Asked<'_>, Shown<'_>),
     session: &mut Session,
-    shown: Shown<'_>,
-    found: &Conflicts,
     accepted: Option<bool>,
 ) -> io::Result<ConflictSheet> {
     let counts = Counts::of(session.tables());
+    let found = Conflicts::new(alloc, session.tables())?;
+    let (cells, others) = (found.cells, found.others);
+    let common = if asked.format == Format::Json {
+        causes_of(alloc, session.tables(), shown.lines, &found)?
+    } else {
+        None
+    };
+    let found = shown_of(alloc, found, asked.choice.shown)?;
+    let sought = sought_for(alloc, session, shown.lines, &found)?;
+    let scene = Scene {
+        alloc,
+        shown,
+        tables: session.tables(),
+        sought: &sought,
+    };
+    let grammar = grammar_of(scene.tables);
     Ok(ConflictSheet {
         shift_reduce: counts.shift_reduce,
         reduce_reduce: counts.reduce_reduce,
-        cells: found.cells,
+        cells,
         accepted,
-        kinds: shown.kind_sheets(alloc, session, found)?,
-        others: found.others,
+        kinds: shown.kind_sheets(alloc, grammar, &found, &sought.findings)?,
+        others,
+        causes: scene.tell(told, &found)?,
+        common: match common {
+            Some(common) => Some(common_sheet(alloc, grammar, &common)?),
+            None => None,
+        },
     })
 }
 
-/// The conflicts of a grammar, where the form of what is said has them.
-fn sheet_in(
-    alloc: Global,
-    asked: Asked<'_>,
-    opened: Opened,
-    found: &Conflicts,
-    accepted: Option<bool>,
-) -> io::Result<Option<ConflictSheet>> {
-    if asked.format == Format::Gcc {
-        return Ok(None);
-    }
-    let Opened { tables, lines } = opened;
-    let mut session = empty_session(alloc, tables);
-    let shown = Shown {
-        lines: &lines,
-        path: asked.file.path,
-        severity: Severity::Note,
-    };
-    sheet_of(alloc, &mut session, shown, found, accepted).map(Some)
-}
-
-/// The exit status, where all conflicts are accepted or not, there are some or none, and there is a
-/// warning or none.
-fn status_of(strict: bool, accepted: Option<bool>, has_conflicts: bool, is_warned: bool) -> u8 {
-    let is_bad = match accepted {
-        Some(accepted) => !accepted,
-        None => has_conflicts,
-    };
-    if strict && (is_bad || is_warned) {
-        1
-    } else {
-        0
-    }
-}
-
-/// Tells conflicts and what else deserves a warning, and says whether something does.
-fn add_found(
+/// Tells the conflicts and the warnings of a grammar whose conflicts are judged, and gives the
+/// conflicts as data.
+fn tell_all(
     alloc: Global,
     told: &mut Diagnostics,
-    (asked, severity): (Asked<'_>, Severity),
-    opened: &Opened,
-    found: &Conflicts,
-) -> io::Result<bool> {
-    let shown = Shown {
-        lines: &opened.lines,
-        path: asked.file.path,
-        severity,
+    asked: Asked<'_>,
+    (opened, is_plain): (Opened, bool),
+    judged: &Judged,
+) -> io::Result<ConflictSheet> {
+    let (path, accepted) = (asked.file.path, judged.is_accepted());
+    let Opened { tables, lines } = opened;
+    let warnings = warnings_of(alloc, path, &tables, &lines)?;
+    let mut session = empty_session(alloc, tables);
+    // what a list hasn't is reported by itself
+    let is_noted = accepted == Some(true) || judged.listed.is_some();
+    let severity = if is_noted {
+        Severity::Note
+    } else {
+        Severity::Warning
     };
-    shown.add_told(alloc, told, grammar_of(&opened.tables), found)?;
-    add_warnings(alloc, told, asked, opened)
+    let shown = Shown {
+        lines: &lines,
+        path,
+        severity,
+        is_plain,
+    };
+    let sheet = sheet_of(alloc, told, (asked, shown), &mut session, accepted)?;
+    told.take(warnings)?;
+    Ok(sheet)
 }
 
 /// Writes what is said of a grammar whose conflicts are judged, after what was told of its files,
@@ -152,27 +124,32 @@ fn add_found(
 fn put_judged<W: Write>(
     alloc: Global,
     asked: Asked<'_>,
-    opened: Opened,
+    grammar: (Opened, bool),
     judged: &Judged,
     mut told: Diagnostics,
     out: &mut W,
 ) -> io::Result<u8> {
+    let path = asked.file.path;
+    let by = match judged.expected {
+        Some(false) => asked.choice,
+        _ => asked.choice.without_conflicts(),
+    };
+    // an import tells of its directives
+    let is_surprised = told.judge_by(0, by);
+    let before = told.all.len();
     if let Some(listed) = &judged.listed {
-        let grammar = asked.file.path;
         let telling = Telling {
-            paths: (grammar, asked.accepted.accept.unwrap_or(grammar)),
-            severity: asked.severity(),
+            paths: (path, asked.accepted.accept.unwrap_or(path)),
+            severity: Severity::Warning,
             is_whole: true,
         };
         listed.add_told(alloc, &mut told, telling)?;
     }
-    let found = Conflicts::new(alloc, &opened.tables)?;
-    let (accepted, severity) = (judged.is_accepted(), asked.conflict_severity(judged));
-    let is_warned = add_found(alloc, &mut told, (asked, severity), &opened, &found)?;
-    let status = status_of(asked.strict, accepted, found.cells > 0, is_warned);
-    let sheet = sheet_in(alloc, asked, opened, &found, accepted)?;
-    let mut all = said(asked, status, &told);
-    all.conflicts = sheet.as_ref();
+    let sheet = tell_all(alloc, &mut told, asked, grammar, judged)?;
+    let is_bad = told.judge_by(before, asked.choice) || is_surprised;
+    let told = told.only(alloc, asked.choice.shown)?;
+    let mut all = said(asked, u8::from(is_bad), &told);
+    all.conflicts = Some(&sheet);
     all.put(alloc, out, asked.format)
 }
 
@@ -188,15 +165,13 @@ fn put_counted<F: Files + AllocGlobal, W: Write>(
     let (alloc, before) = (rt.alloc(), told.all.len());
     match judge(rt, asked.accepted, &counted, &mut told)? {
         Ok(judged) => {
-            if judged.expected == Some(false) {
-                // an import tells of its directives
-                told.judge(0, asked.severity());
-            }
+            let is_plain = !matches!(counted.expected, Expectation::Directives(..));
             let Counted { opened, .. } = counted;
-            put_judged(alloc, asked, opened, &judged, told, out)
+            put_judged(alloc, asked, (opened, is_plain), &judged, told, out)
         }
         Err(status) => {
             told.judge(before, Severity::Error);
+            let told = told.only(alloc, asked.choice.shown)?;
             said(asked, status, &told).put(alloc, out, asked.format)
         }
     }
@@ -214,6 +189,7 @@ pub fn run_report<F: Files + AllocGlobal, W: Write>(
         Ok(counted) => put_counted(rt, asked, counted, told, out),
         Err(status) => {
             told.judge(0, Severity::Error);
+            let told = told.only(rt.alloc(), asked.choice.shown)?;
             said(asked, status, &told).put(rt.alloc(), out, asked.format)
         }
     }

@@ -7,6 +7,7 @@ use std::str;
 use yexplain::reads::Made;
 use yexplain::text::Escaped;
 use yfiles::diagnostic::{Diagnostic, Diagnostics};
+use yfiles::place::Spot;
 use ysymbols::let_go;
 
 /// What is said of a place.
@@ -20,16 +21,23 @@ pub struct DiagnosticSheet {
     column: Option<usize>,
     /// `error`, `warning` or `note`.
     severity: &'static str,
+    /// The category of a warning, where it has one.
+    category: Option<&'static str>,
     /// What is said.
     message: String,
     /// What helps.
     notes: Vec<String>,
+    /// The place of each note.
+    #[serde(skip)]
+    spots: Vec<Option<Spot>>,
 }
 
 impl Drop for DiagnosticSheet {
     // A call in each owner, which keeps their proofs short.
     fn drop(self) {
-        let_go!(self: DiagnosticSheet { file, line, column, severity, message, notes });
+        let_go!(self: DiagnosticSheet {
+            file, line, column, severity, category, message, notes, spots
+        });
     }
 }
 
@@ -45,20 +53,30 @@ fn text_of(alloc: Global, bytes: &[u8]) -> Made<String> {
 }
 
 impl DiagnosticSheet {
-    /// What is said. Of a message of several lines the first says what, and the others help.
+    /// What is said. Of a message of several lines the first says what, and the others help. What
+    /// the excerpt alone shows of the place comes first.
     fn of(alloc: Global, one: &Diagnostic) -> Made<DiagnosticSheet> {
-        let mut message = String::new(alloc);
-        let mut notes = Vec::new(alloc);
+        let (mut message, mut notes) = (String::new(alloc), Vec::new(alloc));
+        let mut spots = Vec::new(alloc);
+        if let Some(code) = one.code {
+            message = format!(in alloc; "{code}: ")?;
+        }
+        if !one.subject.is_empty() {
+            let subject = text_of(alloc, &one.subject)?;
+            message = format!(in alloc; "{message}{subject}: ")?;
+        }
         for (number, line) in one.message.split(|byte| *byte == b'\n').enumerate() {
             let text = text_of(alloc, line)?;
-            match (number, one.code) {
-                (0, Some(code)) => message = format!(in alloc; "{code}: {text}")?,
-                (0, None) => message = text,
-                _ => notes.push(text)?,
+            if number == 0 {
+                message.push_str(&text)?;
+            } else {
+                notes.push(text)?;
+                spots.push(one.spot)?;
             }
         }
         for note in &one.notes {
-            notes.push(text_of(alloc, note)?)?;
+            notes.push(text_of(alloc, &note.text)?)?;
+            spots.push(note.spot.or(one.spot))?;
         }
         let file = match &one.file {
             Some(path) => Some(String::from_str(alloc, path)?),
@@ -69,33 +87,34 @@ impl DiagnosticSheet {
             line: one.spot.map(|spot| spot.line),
             column: one.spot.and_then(|spot| spot.column),
             severity: one.severity.word(),
+            category: one.category.map(|it| it.name()),
             message,
             notes,
+            spots,
         })
     }
 
-    /// Writes the file and the place, as the front of a line.
-    fn put_front<W: Write>(&self, out: &mut W) -> io::Result<()> {
-        match &self.file {
-            Some(path) => write!(out, "{path}:")?,
-            None => write!(out, "ydebug:")?,
-        }
-        if let Some(line) = self.line {
-            write!(out, "{line}:")?;
-        }
-        match self.column {
-            Some(column) => write!(out, "{column}: "),
-            None => write!(out, " "),
+    /// Writes the file and a place of it, as the front of a line.
+    fn put_front<W: Write>(&self, out: &mut W, spot: Option<Spot>) -> io::Result<()> {
+        let file = self.file.as_ref().map_or("ydebug", String::as_str);
+        match spot {
+            Some(spot) => write!(out, "{file}:{spot}: "),
+            None => write!(out, "{file}: "),
         }
     }
 
-    /// Writes it as gcc does, and a line for each note.
+    /// Writes it as gcc does, with the option that shows its category, and a line for each note.
     pub fn put<W: Write>(&self, out: &mut W) -> io::Result<()> {
         let (severity, message) = (self.severity, self.message.as_str());
-        self.put_front(out)?;
-        writeln!(out, "{severity}: {message}")?;
-        for note in &self.notes {
-            self.put_front(out)?;
+        let column = self.column;
+        self.put_front(out, self.line.map(|line| Spot { line, column }))?;
+        write!(out, "{severity}: {message}")?;
+        match self.category {
+            Some(name) => writeln!(out, " [-W{name}]")?,
+            None => writeln!(out)?,
+        }
+        for (note, spot) in self.notes.iter().zip(&self.spots) {
+            self.put_front(out, *spot)?;
             writeln!(out, "note: {note}")?;
         }
         Ok(())

@@ -5,6 +5,7 @@
 pub mod advice;
 mod hints;
 pub mod lines;
+pub mod mends;
 mod question;
 pub mod reads;
 pub mod rivals;

@@ -69,12 +69,13 @@ pub struct Lines {
     rules: Vec<Option<Begun>>,
     mentions: Vec<Mention>,
     sites: Vec<Site>,
+    mark: Option<Spot>,
 }
 
 impl Drop for Lines {
     // A call in each owner, which keeps their proofs short.
     fn drop(self) {
-        let_go!(self: Lines { rules, mentions, sites });
+        let_go!(self: Lines { rules, mentions, sites, mark });
     }
 }
 
@@ -205,10 +206,12 @@ impl Lines {
         for mark in marks {
             sites.push(Site::of(*mark))?;
         }
+        let first = marks.iter().position(|mark| mark.role == Role::Mark);
         Ok(Lines {
             rules,
             mentions,
             sites,
+            mark: first.and_then(|place| spots.get(place).copied()),
         })
     }
 
@@ -238,6 +241,11 @@ impl Lines {
     pub fn giver(&self, grammar: &Grammar, number: usize) -> Option<Sym> {
         self.prec(number)
             .or(last_token(grammar, body_of(grammar, number)))
+    }
+
+    /// Where the first mark stands.
+    pub fn mark(&self) -> Option<Spot> {
+        self.mark
     }
 
     /// All places at which the file names a symbol, in its order.

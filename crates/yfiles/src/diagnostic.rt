@@ -1,5 +1,6 @@
 //! What is said of files: each thing with its place, and all that is said in a run.
 
+use crate::category::{Categories, Category, Choice};
 use crate::place::{Place, Spot};
 use std::alloc::{AllocError, Global};
 use std::io::{self, Write};
@@ -26,22 +27,35 @@ impl Severity {
     }
 }
 
+/// What helps.
+#[derive(Drop)]
+pub struct Note {
+    /// The place in the file, where it is another one than that of what it helps with.
+    pub spot: Option<Spot>,
+    /// The text.
+    pub text: Vec<u8>,
+}
+
 /// What is said of a place of a file, of a whole file, or of something else.
 pub struct Diagnostic {
     /// How bad it is.
     pub severity: Severity,
+    /// The category of a warning, where it has one.
+    pub category: Option<Category>,
     /// The code of a fault, as `G7`, where it has one.
     pub code: Option<&'static str>,
     /// The path of the file, where it is about one that was read.
     pub file: Option<String>,
     /// The place in the file.
     pub spot: Option<Spot>,
+    /// What stands at the place, where the excerpt alone shows it: nothing where the message does.
+    pub subject: Vec<u8>,
     /// What is said.
     pub message: Vec<u8>,
     /// The line of the place as it is shown, with a caret below it.
     pub excerpt: Vec<u8>,
     /// What helps.
-    pub notes: Vec<Vec<u8>>,
+    pub notes: Vec<Note>,
 }
 
 impl Drop for Diagnostic {
@@ -49,9 +63,11 @@ impl Drop for Diagnostic {
     fn drop(self) {
         let Diagnostic {
             severity: _,
+            category: _,
             code: _,
             file: _,
             spot: _,
+            subject: _,
             message: _,
             excerpt: _,
             notes: _,
@@ -72,9 +88,11 @@ impl Diagnostic {
         };
         Ok(Diagnostic {
             severity: Severity::Error,
+            category: None,
             code: None,
             file,
             spot,
+            subject: Vec::new(alloc),
             message: Vec::new(alloc),
             excerpt: Vec::new(alloc),
             notes: Vec::new(alloc),
@@ -94,9 +112,9 @@ impl Diagnostic {
         Ok(())
     }
 
-    /// Adds what helps.
-    pub fn help(&mut self, note: Vec<u8>) -> Result<(), AllocError> {
-        self.notes.push(note)?;
+    /// Adds a text that helps.
+    pub fn help(&mut self, text: Vec<u8>) -> Result<(), AllocError> {
+        self.notes.push(Note { spot: None, text })?;
         Ok(())
     }
 
@@ -123,7 +141,7 @@ impl Diagnostic {
         out.write_all(&self.excerpt)?;
         for note in &self.notes {
             out.write_all(b"  ")?;
-            out.write_all(note)?;
+            out.write_all(&note.text)?;
             out.write_all(b"\n")?;
         }
         Ok(())
@@ -167,6 +185,34 @@ impl Diagnostics {
                 one.severity = severity;
             }
         }
+    }
+
+    /// Makes errors of all after so many but notes whose category makes a run fail, and says whether
+    /// there are some.
+    pub fn judge_by(&mut self, before: usize, choice: Choice) -> bool {
+        let mut fails = false;
+        for place in before..self.all.len() {
+            if let Some(one) = self.all.get_mut(place) {
+                let is_meant = one.category.is_some_and(|it| choice.fails_by(it));
+                if is_meant && one.severity != Severity::Note {
+                    one.severity = Severity::Error;
+                    fails = true;
+                }
+            }
+        }
+        fails
+    }
+
+    /// All of it but what is of a category that isn't one of these.
+    pub fn only(self, alloc: Global, shown: Categories) -> Result<Diagnostics, AllocError> {
+        let Diagnostics { all } = self;
+        let mut kept = Diagnostics::new(alloc);
+        for one in all {
+            if one.category.is_none_or(|it| shown.has(it)) {
+                kept.add(one)?;
+            }
+        }
+        Ok(kept)
     }
 
     /// Writes all of it for people, after the name of the program what is about no file.

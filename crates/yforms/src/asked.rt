@@ -3,8 +3,8 @@
 use crate::ending::Refused;
 use crate::forms::Form;
 use crate::values::{
-    NO_FOLDER, drawn_in, grammar_in, input_in, is_given, kind_in, language_in, messages_in,
-    most_of, number_of, page_in, value_of,
+    NO_FOLDER, choice_in, drawn_in, grammar_in, input_in, is_given, kind_in, language_in,
+    messages_in, most_of, number_of, page_in, value_of,
 };
 use crate::{check, conflicts, cover, table};
 use clap::ArgMatches;
@@ -66,7 +66,8 @@ fn conflicts_in<'m>(matches: &'m ArgMatches<'_>) -> Result<Asked<'m>, Refused> {
     let asked = conflicts::Asked {
         grammar: grammar_in(matches)?,
         save: matches.get_str("save"),
-        strict: is_given(matches, "strict"),
+        strict: matches.get_str("strict").is_some(),
+        choice: choice_in(matches)?,
         expect: matches.get_str("expect"),
         accept: matches.get_str("accept"),
         update: is_given(matches, "update"),
@@ -87,6 +88,7 @@ fn check_in<'m>(matches: &'m ArgMatches<'_>) -> Result<Asked<'m>, Refused> {
             inputs: matches.get_strs("tokens").unwrap_or(&[]),
             messages: matches.get_str("messages"),
             most: most_of(matches)?,
+            shown: choice_in(matches)?.shown,
             format: format.unwrap_or(Format::Text),
         },
         choice: is_given(matches, "choice"),
@@ -187,6 +189,7 @@ pub fn asked_in<'m>(form: Form, matches: &'m ArgMatches<'_>) -> Result<Asked<'m>
         Form::Import => Ok(Asked::Import(import::Asked {
             file: value_of(matches, "file")?,
             output: matches.get_str("output"),
+            shown: choice_in(matches)?.shown,
         })),
         Form::Tokens => {
             let (files, input) = (language_in(matches)?, input_in(matches)?);

@@ -94,6 +94,7 @@ impl<F: Files + AllocGlobal, R: Read, E: Write> Given<'_, F, R, E> {
         let messages = asked.inputs.messages.map(|path| Limited { path, most });
         let mut told = Diagnostics::new(self.rt.alloc());
         let opened = Messaged::open(self.rt, asked.inputs.files, messages, &mut told)?;
+        let told = told.only(self.rt.alloc(), asked.inputs.shown)?;
         told.put(&mut self.errors, "ydebug")?;
         match opened {
             Ok(messaged) => {

@@ -11,12 +11,12 @@ use yaccepted::opening::{Counted, File, open_counted};
 use ydiagnostics::format::{Format, NO_FORM, form_of};
 use ydiagnostics::report::{self as machine, run_report};
 use yfaults::opening::Opened;
+use yfiles::category::Choice;
 use yfiles::diagnostic::{Diagnostics, Severity};
 use yfiles::same::refused_outputs;
 use yinput::grammars::GrammarFile;
 use ylists::saving::are_refused;
 use yreports::report::{self, LIST_NAME, put_conflicts};
-use yreports::warnings::warnings_of;
 
 /// What is asked for: the conflicts of a grammar file, where to keep the lists, and which conflicts
 /// are accepted.
@@ -28,6 +28,8 @@ pub struct Asked<'a> {
     pub save: Option<&'a str>,
     /// Whether a conflict that isn't accepted, or a warning, makes the status 1.
     pub strict: bool,
+    /// Which conflicts and warnings are shown, and which make it 1.
+    pub choice: Choice,
     /// How many conflicts are accepted: `N`, or `N,M`.
     pub expect: Option<&'a str>,
     /// The path of the list of accepted conflicts.
@@ -69,16 +71,17 @@ fn counts_in(asked: Asked<'_>) -> Option<Counts> {
 }
 
 /// Writes what a list of accepted conflicts comes to, where there is one, and on `errors` which
-/// conflicts it hasn't, and which the grammar hasn't.
+/// conflicts it hasn't, and which the grammar hasn't. It says whether one of these makes the status
+/// 1.
 fn put_listed<W: Write, E: Write>(
     alloc: Global,
     asked: Asked<'_>,
     judged: &Judged,
     out: &mut W,
     errors: &mut E,
-) -> io::Result<()> {
+) -> io::Result<bool> {
     let (Some(listed), Some(path)) = (&judged.listed, asked.accept) else {
-        return Ok(());
+        return Ok(false);
     };
     listed.put(out, path)?;
     let mut told = Diagnostics::new(alloc);
@@ -88,7 +91,9 @@ fn put_listed<W: Write, E: Write>(
         is_whole: false,
     };
     listed.add_told(alloc, &mut told, telling)?;
-    told.put(errors, "ydebug")
+    let mut told = told.only(alloc, asked.choice.shown)?;
+    told.put(errors, "ydebug")?;
+    Ok(told.judge_by(0, asked.choice))
 }
 
 /// Which conflicts are accepted.
@@ -110,39 +115,42 @@ impl<F: Files + AllocGlobal + Clone + Drop, R: Read, E: Write> Given<'_, F, R, E
         judged: &Judged,
         out: &mut W,
     ) -> io::Result<u8> {
-        let (rt, accepted) = (self.rt, judged.is_accepted());
-        let is_counted = asked.strict && accepted == Some(true);
-        let is_warned = is_counted
-            && !warnings_of(rt.alloc(), "", &opened.tables, &opened.lines)?
-                .all
-                .is_empty();
+        let rt = self.rt;
         let report = report::Asked {
             grammar: asked.grammar.path,
             save: asked.save,
-            strict: asked.strict && accepted.is_none(),
+            choice: asked.choice,
+            is_open: judged.is_accepted().is_none(),
         };
         let status = put_conflicts(rt, out, &mut self.errors, report, opened)?;
-        put_listed(rt.alloc(), asked, judged, out, &mut self.errors)?;
-        let is_bad = asked.strict && (is_warned || accepted == Some(false));
-        Ok(if is_bad { status.max(1) } else { status })
+        let is_new = put_listed(rt.alloc(), asked, judged, out, &mut self.errors)?;
+        Ok(if is_new { status.max(1) } else { status })
     }
 
-    /// Judges the conflicts of a grammar, writes the report, and gives the exit status.
+    /// Judges the conflicts of a grammar, after what was told of its files, writes the report, and
+    /// gives the exit status.
     fn put_counted<W: Write>(
         &mut self,
         asked: Asked<'_>,
-        counted: Counted,
+        (counted, told): (Counted, Diagnostics),
         out: &mut W,
     ) -> io::Result<u8> {
-        let mut told = Diagnostics::new(self.rt.alloc());
+        let mut told = told;
         let judged = judge(self.rt, accepted_by(asked), &counted, &mut told)?;
+        let mut told = told.only(self.rt.alloc(), asked.choice.shown)?;
         told.put(&mut self.errors, "ydebug")?;
         let judged = match judged {
             Ok(judged) => judged,
             Err(status) => return Ok(status),
         };
+        let by = match judged.expected {
+            Some(false) => asked.choice,
+            _ => asked.choice.without_conflicts(),
+        };
+        let is_surprised = told.judge_by(0, by);
         let Counted { opened, .. } = counted;
-        self.put_report(asked, opened, &judged, out)
+        let status = self.put_report(asked, opened, &judged, out)?;
+        Ok(if is_surprised { status.max(1) } else { status })
     }
 
     /// Writes what is said of conflicts, and gives the exit status.
@@ -160,17 +168,19 @@ impl<F: Files + AllocGlobal + Clone + Drop, R: Read, E: Write> Given<'_, F, R, E
         };
         if format == Format::Text {
             let mut told = Diagnostics::new(self.rt.alloc());
-            let opened = open_counted(self.rt, file, &mut told)?;
-            told.put(&mut self.errors, "ydebug")?;
-            return match opened {
-                Ok(counted) => self.put_counted(asked, counted, out),
-                Err(status) => Ok(status),
+            return match open_counted(self.rt, file, &mut told)? {
+                Ok(counted) => self.put_counted(asked, (counted, told), out),
+                Err(status) => {
+                    let told = told.only(self.rt.alloc(), asked.choice.shown)?;
+                    told.put(&mut self.errors, "ydebug")?;
+                    Ok(status)
+                }
             };
         }
         let asked = machine::Asked {
             file,
             accepted: accepted_by(asked),
-            strict: asked.strict,
+            choice: asked.choice,
             format,
         };
         run_report(self.rt, asked, out)

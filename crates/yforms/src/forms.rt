@@ -8,10 +8,10 @@ pub const USAGE: &str = "usage: ydebug grammar tokens [--lex SPEC]\n";
 
 /// The other forms, and what holds of all, as help and usage have them.
 pub const FORMS: &str = "Other forms:\n\
-    \x20 ydebug conflicts grammar [--save FOLDER] [--strict] [--expect N[,M]]\n\
+    \x20 ydebug conflicts grammar [--save FOLDER] [-WNAME] [--strict[=NAME]] [--expect N[,M]]\n\
     \x20     [--accept FILE [--update]] [--format FORM]\n\
     \x20 ydebug check grammar tokens.. [--lex SPEC] [--messages FILE] [--choice] [--plain]\n\
-    \x20     [--format FORM]\n\
+    \x20     [--format FORM] [-WNAME]\n\
     \x20 ydebug errors grammar [--lex SPEC]\n\
     \x20     [--messages FILE [--complete] [--update | --table OUT]]\n\
     \x20 ydebug sentences grammar [--lex SPEC] [--cover KIND] [--near] [--save FOLDER]\n\
@@ -22,7 +22,7 @@ pub const FORMS: &str = "Other forms:\n\
     \x20 ydebug page grammar tokens [--lex SPEC] [-o FILE] [--first K] [--last K] [--conflicts]\n\
     \x20 ydebug tokens grammar --lex SPEC input\n\
     \x20 ydebug lex-spec grammar\n\
-    \x20 ydebug import file [-o grammar]\n\
+    \x20 ydebug import file [-o grammar] [-WNAME]\n\
     \x20 ydebug rules grammar [--header FILE] [--python FILE]\n\
     \x20 ydebug table [-v] [-b PREFIX] grammar\n\
     A grammar file of bison or byacc is read as one; --dialect D (yacc, bison, auto) says which it is.\n\
@@ -119,6 +119,10 @@ pub enum Way {
     Letter(char, &'static str),
     /// A letter without a value.
     LetterFlag(char),
+    /// A letter with a value, which may be given again.
+    Letters(char, &'static str),
+    /// An option that may have a value after an equals sign, and may be given again.
+    Optional(&'static str),
 }
 
 /// An argument: its name, how it is given, and what help says of it.
@@ -156,6 +160,12 @@ const FORMAT: Argument = (
 
 const DEBUG: &[Argument] = &[GRAMMAR, INPUT, LEX, LIMIT, DIALECT];
 
+const WARNINGS: Argument = (
+    "W",
+    Way::Letters('W', "NAME"),
+    "Shows warnings of a category; with no- before NAME it doesn't",
+);
+
 const CONFLICTS: &[Argument] = &[
     GRAMMAR,
     (
@@ -164,10 +174,12 @@ const CONFLICTS: &[Argument] = &[
         "Writes the tokens of each conflict to a file of this folder",
     ),
     DIALECT,
+    WARNINGS,
     (
         "strict",
-        Way::Flag,
-        "Ends with 1 where a conflict isn't accepted, or there is a warning",
+        Way::Optional("NAME"),
+        "Ends with 1 where a conflict isn't accepted, or a warning is shown; with NAME one of this \
+         category",
     ),
     (
         "expect",
@@ -213,6 +225,7 @@ const CHECK: &[Argument] = &[
         "Writes a plain line for the grammar and for each input",
     ),
     FORMAT,
+    WARNINGS,
 ];
 
 const ERRORS: &[Argument] = &[
@@ -346,6 +359,7 @@ const IMPORT: &[Argument] = &[
         Way::Letter('o', "output"),
         "Writes the grammar to this file",
     ),
+    WARNINGS,
 ];
 
 const RULES: &[Argument] = &[
@@ -386,6 +400,15 @@ fn argument<'a>(alloc: Global, (name, way, help): Argument) -> Result<Arg<'a>, A
         Way::Old => arg.long(name).action(ArgAction::Append).hide(true),
         Way::Letter(letter, shown) => arg.short(letter).value_name(shown),
         Way::LetterFlag(letter) => arg.short(letter).action(ArgAction::SetTrue),
+        Way::Letters(letter, shown) => {
+            let arg = arg.short(letter).value_name(shown);
+            arg.action(ArgAction::Append)
+        }
+        Way::Optional(shown) => {
+            let arg = arg.long(name).value_name(shown).action(ArgAction::Append);
+            let arg = arg.num_args(0..=1).require_equals(true);
+            arg.default_missing_value("")
+        }
     })
 }
 

@@ -38,6 +38,8 @@ fn put_argument<W: Write>(out: &mut W, (name, way, _): Argument) -> io::Result<(
         Way::Wanted(shown) => write!(out, " --{name} {shown}"),
         Way::Letter(letter, shown) => write!(out, " [-{letter} {shown}]"),
         Way::LetterFlag(letter) => write!(out, " [-{letter}]"),
+        Way::Letters(letter, shown) => write!(out, " [-{letter}{shown}]"),
+        Way::Optional(shown) => write!(out, " [--{name}[={shown}]]"),
         Way::Old => Ok(()),
     }
 }

@@ -3,6 +3,7 @@
 use crate::ending::Refused;
 use clap::ArgMatches;
 use ybison::import::Dialect;
+use yfiles::category::{Choice, NO_CATEGORY};
 use yfiles::reading::{LONGEST_INPUT, Limited};
 use yinput::grammars::GrammarFile;
 use yinput::language::LanguageFiles;
@@ -20,6 +21,13 @@ pub fn value_of<'a>(matches: &ArgMatches<'a>, name: &str) -> Result<&'a str, Ref
 /// Whether a flag is given.
 pub fn is_given(matches: &ArgMatches<'_>, name: &str) -> bool {
     matches.get_str(name) == Some("true")
+}
+
+/// Which warnings are shown, and which make the run fail.
+pub fn choice_in(matches: &ArgMatches<'_>) -> Result<Choice, Refused> {
+    let shown = matches.get_strs("W").unwrap_or(&[]);
+    let strict = matches.get_strs("strict").unwrap_or(&[]);
+    Choice::of(shown, strict).ok_or(Refused::Wrong(NO_CATEGORY))
 }
 
 /// The dialect that a word names.

@@ -5,6 +5,7 @@ use ycounterexample::groups::{Conflicts, Group, Kind};
 use yexplain::lines::Lines;
 use yexplain::reads::Made;
 use yexplain::why::{Question, Settled};
+use yfiles::category::{Categories, Category};
 use ytables::Tables;
 
 /// The most kinds that are put into blocks.
@@ -124,6 +125,28 @@ impl Blocks {
         let last = self.list.last();
         self.list.len() >= MOST_BLOCKS && !last.is_some_and(|block| block.first.is_beside(entry))
     }
+}
+
+/// The category of a kind of conflict.
+pub fn category_of(kind: &Kind) -> Category {
+    if kind.shift {
+        Category::ConflictsSr
+    } else {
+        Category::ConflictsRr
+    }
+}
+
+/// Conflicts without the kinds that aren't of these categories.
+pub fn shown_of(alloc: Global, found: Conflicts, shown: Categories) -> Made<Conflicts> {
+    let mut found = found;
+    let mut groups = Vec::new(alloc);
+    for group in &found.groups {
+        if shown.has(category_of(&group.0)) {
+            groups.push(*group)?;
+        }
+    }
+    found.groups = groups;
+    Ok(found)
 }
 
 /// The blocks of the first states.

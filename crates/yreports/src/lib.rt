@@ -9,16 +9,16 @@
 //! text `changed_text` writes. Lists of tokens are written and kept by `ylists`.
 #![tactic(auto)]
 
-mod also;
-mod ambiguity;
+pub mod also;
+pub mod ambiguity;
 mod ambiguity_text;
 mod block_text;
-mod blocks;
+pub mod blocks;
 mod cause_text;
-mod causes;
+pub mod causes;
 mod changed;
 mod changed_text;
-mod covered;
+pub mod covered;
 mod leading;
 mod numbers;
 pub mod report;

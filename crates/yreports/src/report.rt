@@ -5,7 +5,7 @@ use crate::also::try_hints;
 use crate::ambiguity::{answers_of, put_answers};
 use crate::ambiguity_text::AmbiguityText;
 use crate::block_text::BlockText;
-use crate::blocks::{Block, Blocks, blocks_of};
+use crate::blocks::{Block, Blocks, blocks_of, category_of, shown_of};
 use crate::cause_text::CauseText;
 use crate::causes::causes_of;
 use crate::leading::put_leading;
@@ -21,6 +21,7 @@ use yexplain::lines::Lines;
 use yexplain::reads::{Made, grammar_of};
 use yexplain::sources::sources_of;
 use yfaults::opening::Opened;
+use yfiles::category::Choice;
 use yfiles::steady::Steady;
 use ylists::kinds::{put_counts, put_named};
 use ylists::list_text::{ListText, put_unfound};
@@ -37,16 +38,18 @@ const MOST_NAMED: usize = 1_000;
 /// What stands before and after the numbers in the names of the files of lists.
 pub const LIST_NAME: (&str, &str) = ("conflict-", "");
 
-/// What is asked for: the conflicts of a grammar file, where to keep the lists, and whether a
-/// conflict or a warning makes the status 1.
+/// What is asked for: the conflicts of a grammar file, where to keep the lists, what is shown, and
+/// what makes the status 1.
 #[derive(Clone, Copy)]
 pub struct Asked<'a> {
     /// The path of the grammar file.
     pub grammar: &'a str,
     /// The folder in which each list becomes a tokens file.
     pub save: Option<&'a str>,
-    /// Whether a conflict or a warning makes the status 1.
-    pub strict: bool,
+    /// Which conflicts and warnings are shown, and which make the status 1.
+    pub choice: Choice,
+    /// Whether no conflict is accepted: then they make it 1 too.
+    pub is_open: bool,
 }
 
 /// What conflicts are written with.
@@ -189,7 +192,7 @@ fn put_lists<'a, W: Write, F: Files + AllocGlobal + Clone + Drop>(
     asked: Asked<'a>,
     session: &mut Session,
     lines: &'a Lines,
-    found: &Conflicts,
+    found: Conflicts,
 ) -> io::Result<Option<String>> {
     let mut report = Report {
         alloc: rt.alloc(),
@@ -204,14 +207,15 @@ fn put_lists<'a, W: Write, F: Files + AllocGlobal + Clone + Drop>(
         },
         splits: MOST_SPLITS,
     };
-    report.put_counted(session.tables(), found)?;
+    report.put_counted(session.tables(), &found)?;
     report.folder.clear()?;
-    if found.cells > 0 {
+    let found = shown_of(report.alloc, found, asked.choice.shown)?;
+    if !found.groups.is_empty() {
         report.folder.make()?;
-        let mut blocks = blocks_of(report.alloc, session.tables(), lines, found)?;
-        try_hints(report.alloc, session.tables(), lines, found, &mut blocks)?;
+        let mut blocks = blocks_of(report.alloc, session.tables(), lines, &found)?;
+        try_hints(report.alloc, session.tables(), lines, &found, &mut blocks)?;
         let first = report.put_blocks(session, &blocks)?;
-        report.put_rest(session.tables(), found, first, blocks.kinds);
+        report.put_rest(session.tables(), &found, first, blocks.kinds);
     }
     let Report { folder, .. } = report;
     let Folder { failed, .. } = folder;
@@ -227,16 +231,20 @@ fn put_all<W: Write, E: Write, F: Files + AllocGlobal + Clone + Drop>(
     session: &mut Session,
     lines: &Lines,
 ) -> io::Result<u8> {
-    let found = Conflicts::new(rt.alloc(), session.tables())?;
-    let failed = put_lists(rt, &mut *page, asked, session, lines, &found)?;
-    let warnings = warnings_of(rt.alloc(), asked.grammar, session.tables(), lines)?;
+    let (alloc, choice) = (rt.alloc(), asked.choice);
+    let found = Conflicts::new(alloc, session.tables())?;
+    let mut kinds = found.groups.iter();
+    let is_bad = asked.is_open && kinds.any(|(kind, _)| choice.fails_by(category_of(kind)));
+    let failed = put_lists(rt, &mut *page, asked, session, lines, found)?;
+    let warnings = warnings_of(alloc, asked.grammar, session.tables(), lines)?;
+    let mut warnings = warnings.only(alloc, choice.shown)?;
     if !warnings.all.is_empty() {
         page.end();
     }
     warnings.put(&mut *page, "ydebug")?;
     page.checked()?;
-    let is_bad = found.cells > 0 || !warnings.all.is_empty();
-    let status = if asked.strict && is_bad { 1 } else { 0 };
+    let is_warned = warnings.judge_by(0, choice);
+    let status = if is_bad || is_warned { 1 } else { 0 };
     put_failed(errors, failed.as_ref(), status)
 }
 

@@ -6,6 +6,7 @@ use std::io::{self, Write};
 use yexplain::lines::{Lines, Mention, Spot};
 use yexplain::reads::{Made, grammar_of, is_reachable, left_of, level_of, set};
 use yexplain::text::{Name, RuleText};
+use yfiles::category::Category;
 use yfiles::diagnostic::{Diagnostic, Diagnostics, Severity};
 use ylalr::ERROR;
 use ysymbols::{Grammar, Sym};
@@ -78,22 +79,22 @@ fn note(spots: &mut [Option<Spot>], mention: Mention) {
 }
 
 impl Warner<'_> {
-    /// A warning.
-    fn begin(&self, spot: Option<Spot>) -> Made<Diagnostic> {
+    /// A warning of a category.
+    fn begin(&self, spot: Option<Spot>, category: Category) -> Made<Diagnostic> {
         let mut one = Diagnostic::new(self.alloc, Some(self.path), spot)?;
         one.severity = Severity::Warning;
+        one.category = Some(category);
         Ok(one)
     }
 
-    /// Adds a warning about a symbol between two texts.
+    /// Adds a warning of a category about a symbol between two texts.
     fn warn(
         &mut self,
         spot: Option<Spot>,
-        before: &str,
-        symbol: Sym,
-        after: &str,
+        category: Category,
+        (before, symbol, after): (&str, Sym, &str),
     ) -> io::Result<()> {
-        let (mut one, name) = (self.begin(spot)?, Name(self.grammar, symbol));
+        let (mut one, name) = (self.begin(spot, category)?, Name(self.grammar, symbol));
         write!(one.message, "{before}{name}{after}")?;
         Ok(self.found.add(one)?)
     }
@@ -104,7 +105,7 @@ impl Warner<'_> {
             let is_done = done.reduced.get(rule).copied().unwrap_or(true);
             if !is_done && self.is_live(rule) {
                 let shown = RuleText(self.grammar, rule);
-                let mut one = self.begin(self.lines.spot(rule))?;
+                let mut one = self.begin(self.lines.spot(rule), Category::Other)?;
                 write!(
                     one.message,
                     "rule {rule} is useless in the parser due to conflicts:  {shown}"
@@ -127,7 +128,8 @@ impl Warner<'_> {
             let is_meant = named.is_used(token) && level_of(self.grammar, token).is_some();
             if is_meant && !settles {
                 let spot = named.levelled.get(token).copied().flatten();
-                self.warn(spot, "useless precedence for ", token, "")?;
+                let words = ("useless precedence for ", token, "");
+                self.warn(spot, Category::Precedence, words)?;
             }
         }
         Ok(())
@@ -138,7 +140,7 @@ impl Warner<'_> {
         for rule in 1..self.grammar.rules() {
             let settles = done.by_rule.get(rule).copied().unwrap_or(true);
             if !settles && self.lines.prec(rule).is_some() && self.is_live(rule) {
-                let mut one = self.begin(self.lines.spot(rule))?;
+                let mut one = self.begin(self.lines.spot(rule), Category::Precedence)?;
                 if done.all_tried {
                     write!(one.message, "useless %prec in rule {rule}")?;
                 } else {
@@ -156,7 +158,8 @@ impl Warner<'_> {
             let is_token = self.grammar.is_token(token) && token > ERROR;
             if is_token && !named.is_used(token) {
                 let spot = named.spot(token);
-                self.warn(spot, "token ", token, " is declared but never used")?;
+                let words = ("token ", token, " is declared but never used");
+                self.warn(spot, Category::Other, words)?;
             }
         }
         Ok(())
@@ -175,12 +178,8 @@ impl Warner<'_> {
                 } else {
                     "useless token "
                 };
-                self.warn(
-                    spot,
-                    front,
-                    symbol,
-                    ": it can't be reached from the start symbol",
-                )?;
+                let words = (front, symbol, ": it can't be reached from the start symbol");
+                self.warn(spot, Category::Other, words)?;
             }
         }
         Ok(())

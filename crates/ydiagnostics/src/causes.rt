@@ -1,0 +1,261 @@
+//! Causes of conflicts, as data: the conflicts of one state between the same rivals that are settled
+//! in one way, with the rivals, with sentences for them, and with what settles them otherwise.
+
+use crate::hints::HintSheet;
+use crate::kinds::{Shown, named, names_of};
+use crate::sought::Sought;
+use serde::Serialize;
+use std::alloc::Global;
+use yambiguity::answer::{Answer, Sentence};
+use yambiguity::choice::Choice;
+use ycounterexample::groups::MOST_RIVALS;
+use yexplain::reads::{Made, body_of, grammar_of, next_of};
+use yexplain::text::{ItemText, RuleText};
+use ylalr::Item;
+use yreports::blocks::{Class, Entry, category_of};
+use ysymbols::let_go;
+use ytables::Tables;
+
+/// The most nodes of a tree that are listed.
+const MOST_NODES: usize = 100;
+
+/// A rival: a shift in an item, or a rule.
+#[derive(Serialize)]
+pub struct RivalSheet {
+    /// `shift` or `reduce`.
+    pub action: &'static str,
+    /// Whether it is taken.
+    pub taken: bool,
+    /// Its rule, and how many symbols of its body stand before the dot.
+    pub rule: usize,
+    pub dot: usize,
+    /// Where the rule begins.
+    pub line: Option<usize>,
+    pub column: Option<usize>,
+    /// The rule, or the item that shifts.
+    pub text: String,
+}
+
+impl Drop for RivalSheet {
+    // A call in each owner, which keeps their proofs short.
+    fn drop(self) {
+        let_go!(self: RivalSheet { action, taken, rule, dot, line, column, text });
+    }
+}
+
+/// A node of a tree.
+#[derive(Drop, Serialize)]
+pub struct NodeSheet {
+    /// How many nodes are above it.
+    level: usize,
+    symbol: String,
+    /// The rule by which its children are below it; none for a leaf.
+    rule: Option<usize>,
+}
+
+/// A sentence that a rival derives.
+#[derive(Serialize)]
+pub struct SentenceSheet {
+    /// `shift` or `reduce`, and by which rule.
+    pub action: &'static str,
+    pub rule: Option<usize>,
+    /// Its tokens, and how many of them stand before the conflict.
+    pub tokens: Vec<String>,
+    pub dot: usize,
+    /// The number of the token that the tables refuse, where they refuse it.
+    refused: Option<usize>,
+    /// The least part of its tree that differs from that of the other rival, each node before those
+    /// below it.
+    tree: Option<Vec<NodeSheet>>,
+}
+
+impl Drop for SentenceSheet {
+    // A call in each owner, which keeps their proofs short.
+    fn drop(self) {
+        let_go!(self: SentenceSheet { action, rule, tokens, dot, refused, tree });
+    }
+}
+
+/// A cause.
+#[derive(Serialize)]
+pub struct CauseSheet {
+    /// `shift/reduce` or `reduce/reduce`, and its category.
+    pub kind: &'static str,
+    pub category: &'static str,
+    /// The places of its kinds among all that are listed, from 0 on.
+    kinds: Vec<usize>,
+    /// The states that have it, and its tokens.
+    pub states: Vec<usize>,
+    pub tokens: Vec<String>,
+    /// The rules that lose.
+    pub loses: Vec<usize>,
+    pub rivals: Vec<RivalSheet>,
+    /// Whether a sentence with two trees was found.
+    pub ambiguous: bool,
+    /// That sentence by each of two rivals, or a sentence for each rival.
+    pub sentences: Vec<SentenceSheet>,
+    /// How to choose otherwise.
+    hint: Option<HintSheet>,
+}
+
+impl Drop for CauseSheet {
+    // A call in each owner, which keeps their proofs short.
+    fn drop(self) {
+        let_go!(self: CauseSheet {
+            kind, category, kinds, states, tokens, loses, rivals, ambiguous, sentences, hint
+        });
+    }
+}
+
+/// What causes are made of.
+#[derive(Clone, Copy)]
+pub struct Scene<'a> {
+    pub alloc: Global,
+    /// What rules are shown with.
+    pub shown: Shown<'a>,
+    /// The tables.
+    pub tables: &'a Tables,
+    /// What was sought.
+    pub sought: &'a Sought,
+}
+
+/// The word for a rival.
+fn action_of(choice: Choice) -> &'static str {
+    match choice {
+        Choice::Shift => "shift",
+        Choice::Reduce(_) => "reduce",
+    }
+}
+
+impl Scene<'_> {
+    /// A rival of an item, or of a rule where the dot is at its end.
+    fn rival(self, action: &'static str, taken: bool, item: Item) -> Made<RivalSheet> {
+        let (grammar, spot) = (grammar_of(self.tables), self.shown.lines.spot(item.rule));
+        let (rule, whole) = (item.rule, RuleText(grammar, item.rule));
+        let item_text = ItemText(grammar, item);
+        let text = match action {
+            "shift" => format!(in self.alloc; "{item_text}")?,
+            _ => format!(in self.alloc; "{whole}")?,
+        };
+        Ok(RivalSheet {
+            action,
+            taken,
+            rule,
+            dot: item.dot,
+            line: spot.map(|spot| spot.line),
+            column: spot.and_then(|spot| spot.column),
+            text,
+        })
+    }
+
+    /// The rivals of a kind: the items that shift, where that is taken, and the rules.
+    fn rivals(self, entry: &Entry) -> Made<Vec<RivalSheet>> {
+        let asked = entry.cell(self.tables, self.shown.lines);
+        let (grammar, kind) = (asked.grammar(), &entry.kind);
+        let mut rivals = Vec::new(self.alloc);
+        let shifts = |item: &&Item| kind.shift && next_of(grammar, **item) == Some(kind.token);
+        for item in asked.items().iter().filter(shifts).take(MOST_RIVALS) {
+            rivals.push(self.rival("shift", true, *item)?)?;
+        }
+        for rule in kind.rules() {
+            let dot = body_of(grammar, *rule).len();
+            let taken = kind.taken() == Some(*rule);
+            rivals.push(self.rival("reduce", taken, Item { rule: *rule, dot })?)?;
+        }
+        Ok(rivals)
+    }
+
+    /// A tree, as far as it is listed.
+    fn tree(self, root: usize) -> Made<Vec<NodeSheet>> {
+        let (trees, grammar) = (&self.sought.found.trees, grammar_of(self.tables));
+        let (mut open, mut nodes) = (Vec::new(self.alloc), Vec::new(self.alloc));
+        open.push((0usize, root))?;
+        for _ in 0..MOST_NODES {
+            let Some((level, tree)) = open.pop() else {
+                break;
+            };
+            let Some(node) = trees.node(tree) else {
+                break;
+            };
+            nodes.push(NodeSheet {
+                level,
+                symbol: named(self.alloc, grammar, node.symbol)?,
+                rule: node.rule.filter(|_| !node.stands),
+            })?;
+            let below = if node.stands {
+                &[]
+            } else {
+                trees.children(tree)
+            };
+            for child in below.iter().rev() {
+                open.push((level.saturating_add(1), *child))?;
+            }
+        }
+        Ok(nodes)
+    }
+
+    /// A sentence for a rival, with its tree, where it is one of two.
+    fn sentence(
+        self,
+        choice: Choice,
+        sentence: &Sentence,
+        tree: Option<usize>,
+    ) -> Made<SentenceSheet> {
+        let grammar = grammar_of(self.tables);
+        Ok(SentenceSheet {
+            action: action_of(choice),
+            rule: choice.rule(),
+            tokens: names_of(self.alloc, grammar, &sentence.tokens)?,
+            dot: sentence.dot,
+            refused: sentence.refused,
+            tree: match tree {
+                Some(tree) => Some(self.tree(tree)?),
+                None => None,
+            },
+        })
+    }
+
+    /// Sentences for rivals: one with two trees, where it was found, or one for each.
+    fn sentences(self, answers: &[Answer]) -> Made<Vec<SentenceSheet>> {
+        let (mut sentences, mut told) = (Vec::new(self.alloc), Vec::new(self.alloc));
+        if let Some(twins) = answers.iter().find_map(|answer| answer.twins.as_ref()) {
+            let (one, trees) = (&twins.sentence, twins.trees);
+            sentences.push(self.sentence(one.choice, one, Some(trees.0))?)?;
+            sentences.push(self.sentence(twins.second, one, Some(trees.1))?)?;
+            return Ok(sentences);
+        }
+        for one in answers.iter().flat_map(|answer| answer.sentences.iter()) {
+            if !told.contains(&one.choice) {
+                told.push(one.choice)?;
+                sentences.push(self.sentence(one.choice, one, None)?)?;
+            }
+        }
+        Ok(sentences)
+    }
+
+    /// The cause that a class is, with sentences for its rivals.
+    pub fn cause(self, entry: &Entry, class: &Class, answers: &[Answer]) -> Made<CauseSheet> {
+        let (alloc, kind) = (self.alloc, &entry.kind);
+        let (mut kinds, mut tokens) = (Vec::new(alloc), Vec::new(alloc));
+        for entry in &class.entries {
+            kinds.push(entry.number)?;
+            tokens.push(named(alloc, grammar_of(self.tables), entry.kind.token)?)?;
+        }
+        Ok(CauseSheet {
+            kind: if kind.shift {
+                "shift/reduce"
+            } else {
+                "reduce/reduce"
+            },
+            category: category_of(kind).name(),
+            kinds,
+            states: kind.states(alloc, self.tables, entry.group)?,
+            tokens,
+            loses: Vec::from_slice(alloc, kind.others())?,
+            rivals: self.rivals(entry)?,
+            ambiguous: answers.iter().any(|answer| answer.twins.is_some()),
+            sentences: self.sentences(answers)?,
+            hint: self.hint(entry, class)?,
+        })
+    }
+}

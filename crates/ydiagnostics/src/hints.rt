@@ -1,0 +1,228 @@
+//! How conflicts are settled otherwise, as data.
+
+use crate::causes::Scene;
+use crate::kinds::named;
+use serde::Serialize;
+use std::alloc::Global;
+use yexplain::advice::{Advice, Deed, Hint};
+use yexplain::mends::{Mend, mend_of};
+use yexplain::reads::{Made, grammar_of};
+use yexplain::rivals::Kinds;
+use yexplain::text::Name;
+use yreports::blocks::{Class, Entry};
+use ysymbols::{Associativity, Sym, let_go};
+
+/// The words of lines.
+const LEFT: &str = "%left";
+
+const RIGHT: &str = "%right";
+
+const NONASSOC: &str = "%nonassoc";
+
+/// No words of lines, and all.
+const NO_KINDS: Kinds = Kinds {
+    left: false,
+    right: false,
+    nonassoc: false,
+};
+
+const ALL_KINDS: Kinds = Kinds {
+    left: true,
+    right: true,
+    nonassoc: true,
+};
+
+/// A change of the text that settles a conflict: what stands from one place of the file to another
+/// becomes a text.
+#[derive(Serialize)]
+pub struct EditSheet {
+    /// `shift` or `reduce`: what is done then.
+    action: &'static str,
+    file: String,
+    line: usize,
+    column: usize,
+    end_line: usize,
+    end_column: usize,
+    text: String,
+}
+
+impl Drop for EditSheet {
+    // A call in each owner, which keeps their proofs short.
+    fn drop(self) {
+        let_go!(self: EditSheet { action, file, line, column, end_line, end_column, text });
+    }
+}
+
+/// How a conflict is settled otherwise.
+#[derive(Serialize)]
+pub struct HintSheet {
+    /// What it takes.
+    advice: &'static str,
+    /// The rule that it is about.
+    rule: Option<usize>,
+    /// The token of the conflict, and the one from which the rule has its precedence.
+    token: String,
+    giver: Option<String>,
+    /// The words of lines by which the token is shifted, and those by which the rule is reduced.
+    shifts: Vec<&'static str>,
+    reduces: Vec<&'static str>,
+    /// Whether a name of its own for the rule does it.
+    own: bool,
+    /// The places of further kinds that it settles.
+    also: Vec<usize>,
+    /// Changes of the text that do it, where they are known.
+    edits: Vec<EditSheet>,
+}
+
+impl Drop for HintSheet {
+    // A call in each owner, which keeps their proofs short.
+    fn drop(self) {
+        let_go!(self: HintSheet {
+            advice, rule, token, giver, shifts, reduces, own, also, edits
+        });
+    }
+}
+
+/// What a hint says: what it takes, the token that gives the rule its precedence, words that shift
+/// and words that reduce, and whether a name of its own does it.
+#[derive(Clone, Copy)]
+struct Said {
+    advice: &'static str,
+    giver: Option<Sym>,
+    shifts: Kinds,
+    reduces: Kinds,
+    own: bool,
+}
+
+/// The words of lines.
+fn words_of(alloc: Global, kinds: Kinds) -> Made<Vec<&'static str>> {
+    let mut words = Vec::new(alloc);
+    for (is_one, word) in [
+        (kinds.left, LEFT),
+        (kinds.right, RIGHT),
+        (kinds.nonassoc, NONASSOC),
+    ] {
+        if is_one {
+            words.push(word)?;
+        }
+    }
+    Ok(words)
+}
+
+/// That `%left` reduces, or that `%right` shifts.
+fn turned(advice: &'static str, reduces: bool, shifts: bool) -> Said {
+    let (mut left, mut right) = (NO_KINDS, NO_KINDS);
+    left.left = reduces;
+    right.right = shifts;
+    Said {
+        advice,
+        giver: None,
+        shifts: right,
+        reduces: left,
+        own: false,
+    }
+}
+
+/// What a hint says.
+fn said_of(hint: Hint) -> Said {
+    let plain = |advice| turned(advice, false, false);
+    let by = |advice, giver, shifts, reduces| Said {
+        advice,
+        giver: Some(giver),
+        shifts,
+        reduces,
+        own: false,
+    };
+    match hint {
+        Hint::First => plain("first"),
+        Hint::General | Hint::Settle(_, Advice::General) => plain("general"),
+        Hint::Settle(_, Advice::End) => plain("end"),
+        Hint::Settle(_, Advice::Inner) => plain("inner"),
+        Hint::Settle(_, Advice::Own) => Said {
+            own: true,
+            ..plain("own")
+        },
+        Hint::Settle(_, Advice::Both { reduces, shifts }) => turned("both", reduces, shifts),
+        Hint::Settle(_, Advice::Rule(giver)) => by("rule", giver, ALL_KINDS, ALL_KINDS),
+        Hint::Settle(_, Advice::Token(it)) => by("token", it.giver, it.shifts, it.reduces),
+        Hint::Settle(_, Advice::Lines { words: it, own }) => Said {
+            own,
+            ..by("lines", it.giver, it.shifts, it.reduces)
+        },
+        Hint::Turn { reduces, shifts } => turned("word", reduces, shifts),
+        Hint::Word(deed) => turned("word", deed == Deed::Reduce, deed == Deed::Shift),
+        Hint::Order(Deed::Shift, giver, kinds) => by("order", giver, kinds, NO_KINDS),
+        Hint::Order(Deed::Reduce, giver, kinds) => by("order", giver, NO_KINDS, kinds),
+    }
+}
+
+impl Scene<'_> {
+    /// The change of the text that a mend is, where the place of the mark is known.
+    fn edit(self, mend: Mend) -> Made<Option<EditSheet>> {
+        let Some(column) = mend.at.column else {
+            return Ok(None);
+        };
+        let word = match mend.kind {
+            Associativity::Left => LEFT,
+            Associativity::Right => RIGHT,
+            Associativity::Nonassoc => NONASSOC,
+        };
+        let (alloc, grammar) = (self.alloc, grammar_of(self.tables));
+        let first = Name(grammar, mend.first);
+        let text = match mend.second {
+            None => format!(in alloc; "{word} {first}\n")?,
+            Some(second) => {
+                let second = Name(grammar, second);
+                format!(in alloc; "{word} {first}\n{word} {second}\n")?
+            }
+        };
+        Ok(Some(EditSheet {
+            action: match mend.deed {
+                Deed::Shift => "shift",
+                Deed::Reduce => "reduce",
+            },
+            file: String::from_str(alloc, self.shown.path)?,
+            line: mend.at.line,
+            column,
+            end_line: mend.at.line,
+            end_column: column,
+            text,
+        }))
+    }
+
+    /// How the first conflict of a class is settled otherwise.
+    pub fn hint(self, entry: &Entry, class: &Class) -> Made<Option<HintSheet>> {
+        let Some(hint) = class.settled.hint else {
+            return Ok(None);
+        };
+        let (alloc, grammar) = (self.alloc, grammar_of(self.tables));
+        let said = said_of(hint);
+        let asked = entry.cell(self.tables, self.shown.lines);
+        let mut edits = Vec::new(alloc);
+        for deed in [Deed::Shift, Deed::Reduce] {
+            let mend = mend_of(asked, hint, deed).filter(|_| self.shown.is_plain);
+            if let Some(mend) = mend {
+                if let Some(edit) = self.edit(mend)? {
+                    edits.push(edit)?;
+                }
+            }
+        }
+        Ok(Some(HintSheet {
+            advice: said.advice,
+            rule: match hint {
+                Hint::Settle(rule, _) => Some(rule),
+                _ => None,
+            },
+            token: named(alloc, grammar, entry.kind.token)?,
+            giver: match said.giver {
+                Some(giver) => Some(named(alloc, grammar, giver)?),
+                None => None,
+            },
+            shifts: words_of(alloc, said.shifts)?,
+            reduces: words_of(alloc, said.reduces)?,
+            own: said.own,
+            also: Vec::from_slice(alloc, &class.also)?,
+            edits,
+        }))
+    }
+}

@@ -1,0 +1,78 @@
+//! What is sought for conflicts: lists of tokens that get to them, and sentences for their rivals.
+
+use std::alloc::{AllocError, Global};
+use std::io;
+use yambiguity::answer::{Ambiguities, Answer};
+use ycounterexample::finding::{Finding, Seeker};
+use ycounterexample::groups::Conflicts;
+use yexplain::lines::Lines;
+use yparse::Session;
+use yreports::also::try_hints;
+use yreports::ambiguity::answers_of;
+use yreports::blocks::{Block, Blocks, blocks_of};
+
+/// The most kinds for which lists are sought.
+const MOST_SOUGHT: usize = 200;
+
+/// What was sought for conflicts.
+#[derive(Drop)]
+pub struct Sought {
+    /// The conflicts, those of one state between the same rivals together.
+    pub blocks: Blocks,
+    /// Lists for the first kinds.
+    pub findings: Vec<Finding>,
+    /// Sentences for the first kind of each of the first blocks.
+    pub answers: Vec<Vec<Answer>>,
+    /// The trees of sentences.
+    pub found: Ambiguities,
+}
+
+/// What is found for the conflicts of a session without tokens, as long as there are steps for it.
+pub fn sought_for(
+    alloc: Global,
+    session: &mut Session,
+    lines: &Lines,
+    conflicts: &Conflicts,
+) -> io::Result<Sought> {
+    let mut sought = Sought {
+        blocks: blocks_of(alloc, session.tables(), lines, conflicts)?,
+        findings: Vec::new(alloc),
+        answers: Vec::new(alloc),
+        found: Ambiguities::new(alloc),
+    };
+    try_hints(
+        alloc,
+        session.tables(),
+        lines,
+        conflicts,
+        &mut sought.blocks,
+    )?;
+    let mut seeker = Seeker::new(alloc, session)?;
+    for (kind, group) in conflicts.groups.iter().take(MOST_SOUGHT) {
+        if !seeker.finder.has_steps() {
+            break;
+        }
+        let (number, next) = (sought.findings.len(), sought.answers.len());
+        let block = sought.blocks.list.get(next);
+        let first = block
+            .map(|block| block.first)
+            .filter(|first| first.number == number);
+        let finding = seeker.find(kind, *group)?;
+        if let Some(first) = first {
+            let answers = answers_of(alloc, &mut seeker, &mut sought.found, &first, &finding)?;
+            sought.answers.push(answers).map_err(AllocError::from)?;
+        }
+        sought.findings.push(finding).map_err(AllocError::from)?;
+    }
+    Ok(sought)
+}
+
+impl Sought {
+    /// What was found for the first kind of a block, by the place of the block.
+    pub fn of(&self, place: usize) -> Option<(&Finding, &[Answer])> {
+        let block: &Block = self.blocks.list.get(place)?;
+        let finding = self.findings.get(block.first.number)?;
+        let answers = self.answers.get(place)?.as_slice();
+        Some((finding, answers))
+    }
+}

@@ -1,0 +1,198 @@
+//! Causes of conflicts as they are told: at the first rule that loses, with a note for each sentence,
+//! for each rival at its place, and for what settles them otherwise.
+
+use crate::causes::{CauseSheet, RivalSheet, Scene, SentenceSheet};
+use std::alloc::{AllocError, Global};
+use std::io::{self, Write};
+use yambiguity::answer::Answer;
+use ycounterexample::finding::Finding;
+use ycounterexample::groups::{Conflicts, Group, Kind};
+use yexplain::reads::grammar_of;
+use yexplain::rivals::Rivals;
+use yexplain::text::{Name, Names, RuleText};
+use yfiles::diagnostic::{Diagnostic, Diagnostics, Note};
+use yfiles::place::Spot;
+use yreports::blocks::{Class, Entry, category_of};
+
+/// The most tokens that are named.
+const MOST_TOKENS: usize = 20;
+
+/// Writes what is taken, on which tokens, and in how many states.
+fn put_taken<W: Write>(
+    out: &mut W,
+    (kind, group): (&Kind, Group),
+    tokens: &[String],
+) -> io::Result<()> {
+    let what = if kind.shift { "shift" } else { "reduce" };
+    write!(out, "{what}/reduce conflict on ")?;
+    let shown = tokens.get(..MOST_TOKENS).unwrap_or(tokens);
+    let (more, last) = (
+        tokens.len().saturating_sub(shown.len()),
+        shown.len().saturating_sub(1),
+    );
+    for (place, token) in shown.iter().enumerate() {
+        match place {
+            0 => {}
+            _ if place == last && more == 0 => write!(out, " and ")?,
+            _ => write!(out, ", ")?,
+        }
+        write!(out, "{token}")?;
+    }
+    if more > 0 {
+        write!(out, " and {more} tokens more")?;
+    }
+    write!(out, " in state {}", group.state)?;
+    match group.states.saturating_sub(1) {
+        0 => {}
+        more => write!(out, " and {more} more")?,
+    }
+    match kind.taken() {
+        Some(rule) => write!(out, ": rule {rule} is taken"),
+        None => write!(out, ": the shift is taken"),
+    }
+}
+
+/// Writes the tokens of a sentence with a period where the conflict is.
+fn put_tokens<W: Write>(out: &mut W, tokens: &[String], dot: usize) -> io::Result<()> {
+    for (place, token) in tokens.iter().enumerate() {
+        if place == dot {
+            write!(out, " .")?;
+        }
+        write!(out, " {token}")?;
+    }
+    if dot >= tokens.len() {
+        write!(out, " .")?;
+    }
+    Ok(())
+}
+
+/// Writes a sentence for a rival.
+fn put_sentence<W: Write>(out: &mut W, sentence: &SentenceSheet) -> io::Result<()> {
+    match sentence.rule {
+        Some(rule) => write!(out, "by rule {rule}:")?,
+        None => write!(out, "by the shift:")?,
+    }
+    put_tokens(out, &sentence.tokens, sentence.dot)
+}
+
+/// A rival as a note at its rule.
+fn rival_note(alloc: Global, rival: &RivalSheet) -> io::Result<Note> {
+    let mut text = Vec::new(alloc);
+    let taken = if rival.taken { "taken" } else { "not taken" };
+    let how = if rival.action == "shift" {
+        "the shift in "
+    } else {
+        ""
+    };
+    let (rule, shown) = (rival.rule, rival.text.as_str());
+    write!(text, "{taken}: {how}rule {rule}  {shown}")?;
+    let column = rival.column;
+    let spot = rival.line.map(|line| Spot { line, column });
+    Ok(Note { spot, text })
+}
+
+impl Scene<'_> {
+    /// A kind, alone or with others, as what is said of the first rule that isn't taken.
+    fn head(self, cells: (&Kind, Group), tokens: &[String]) -> io::Result<Diagnostic> {
+        let (shown, grammar) = (self.shown, grammar_of(self.tables));
+        let spot = cells.0.spot(shown.lines);
+        let mut one = Diagnostic::new(self.alloc, Some(shown.path), spot)?;
+        one.severity = shown.severity;
+        one.category = Some(category_of(cells.0));
+        put_taken(&mut one.message, cells, tokens)?;
+        for (place, rule) in cells.0.others().iter().enumerate() {
+            let front = if place == 0 { ", not" } else { " nor" };
+            let shown = RuleText(grammar, *rule);
+            write!(one.message, "{front} rule {rule} ({shown})")?;
+        }
+        Ok(one)
+    }
+
+    /// Notes sentences: one with two trees, one for each rival, or the lists of tokens.
+    fn note_sentences(
+        self,
+        one: &mut Diagnostic,
+        cause: &CauseSheet,
+        finding: Option<&Finding>,
+    ) -> io::Result<()> {
+        let grammar = grammar_of(self.tables);
+        for sentence in &cause.sentences {
+            let mut text = Vec::new(self.alloc);
+            if cause.ambiguous {
+                write!(text, "the grammar is ambiguous: two trees for")?;
+                put_tokens(&mut text, &sentence.tokens, sentence.dot)?;
+                return Ok(one.help(text)?);
+            }
+            put_sentence(&mut text, sentence)?;
+            one.help(text)?;
+        }
+        if let (true, Some(finding), Some(token)) = (
+            cause.sentences.is_empty(),
+            finding,
+            cause.tokens.first(),
+        ) {
+            for list in &finding.lists {
+                let mut text = Vec::new(self.alloc);
+                let tokens = Names(grammar, &list.tokens);
+                write!(text, "counterexample:{tokens} . {token}")?;
+                one.help(text)?;
+            }
+        }
+        Ok(())
+    }
+
+    /// A cause with its notes.
+    fn told(
+        self,
+        (entry, class): (&Entry, &Class),
+        cause: &CauseSheet,
+        finding: Option<&Finding>,
+    ) -> io::Result<Diagnostic> {
+        let mut one = self.head((&entry.kind, entry.group), &cause.tokens)?;
+        self.note_sentences(&mut one, cause, finding)?;
+        for rival in &cause.rivals {
+            let note = rival_note(self.alloc, rival)?;
+            one.notes.push(note).map_err(AllocError::from)?;
+        }
+        if let Some(hint) = class.settled.hint {
+            let mut text = Vec::new(self.alloc);
+            let asked = entry.cell(self.tables, self.shown.lines);
+            Rivals::new(asked).put_hint(&mut text, hint)?;
+            for line in text
+                .split(|byte| *byte == b'\n')
+                .filter(|line| !line.is_empty())
+            {
+                one.help(Vec::from_slice(self.alloc, line.trim_ascii_start())?)?;
+            }
+        }
+        Ok(one)
+    }
+
+    /// Tells all causes, and the kinds that stand in none since there are too many, in the order of
+    /// their states, and gives the causes.
+    pub fn tell(self, told: &mut Diagnostics, found: &Conflicts) -> io::Result<Vec<CauseSheet>> {
+        let (alloc, blocks) = (self.alloc, &self.sought.blocks);
+        let mut causes = Vec::new(alloc);
+        for (place, block) in blocks.list.iter().enumerate() {
+            for (number, class) in block.classes.iter().enumerate() {
+                let Some(entry) = class.entries.first() else {
+                    continue;
+                };
+                let found = self.sought.of(place).filter(|_| number == 0);
+                let answers: &[Answer] = match found {
+                    Some((_, answers)) => answers,
+                    None => &[],
+                };
+                let cause = self.cause(entry, class, answers)?;
+                told.add(self.told((entry, class), &cause, found.map(|found| found.0))?)?;
+                causes.push(cause).map_err(AllocError::from)?;
+            }
+        }
+        for (kind, group) in found.groups.iter().skip(blocks.kinds) {
+            let name = Name(grammar_of(self.tables), kind.token);
+            let tokens = vec![in alloc; format!(in alloc; "{name}")?]?;
+            told.add(self.head((kind, *group), &tokens)?)?;
+        }
+        Ok(causes)
+    }
+}

@@ -1,0 +1,4 @@
+%define api.pure full
+%token LE "<="
+%%
+s : LE "x" ;

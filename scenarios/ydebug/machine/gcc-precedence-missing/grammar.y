@@ -1,0 +1,8 @@
+%token A B C
+%right B
+%%
+s : x B C ;
+x : A x
+  | x C x
+  | A
+  ;

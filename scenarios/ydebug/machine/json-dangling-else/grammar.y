@@ -1,0 +1,6 @@
+%token IF ELSE X
+%%
+s : IF s
+  | IF s ELSE s
+  | X
+  ;

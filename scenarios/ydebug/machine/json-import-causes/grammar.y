@@ -1,0 +1,6 @@
+%token N
+%token MINUS "-"
+%%
+e : e "-" e
+  | N
+  ;

@@ -1,0 +1,4 @@
+%define lr.type ielr
+%token N
+%%
+s : N ;
