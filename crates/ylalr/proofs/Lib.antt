@@ -17,6 +17,8 @@ pub mod ListSteps
 pub mod Live
 pub mod LookSteps
 pub mod ItemRowSteps
+pub mod NumberSteps
+pub mod RowSteps
 pub mod SearchSteps
 pub mod StateSteps
 pub mod Vanish
