@@ -18,6 +18,7 @@ pub mod Live
 pub mod LookSteps
 pub mod ItemRowSteps
 pub mod NumberSteps
+pub mod OneCollection
 pub mod RowSteps
 pub mod SearchSteps
 pub mod StateSteps

@@ -1,6 +1,6 @@
 -- States have the order in which gotos find them: one goto more in a row, and one row more.
-use Rattle.std.proofs.Common.{ℕ, ◌≡◌, ◌≢◌, ◌<◌, ◌≤◌, ◌+◌, ◌⊎◌, List, [], ◌∷◌, ◌++◌, length}
-use Rattle.std.proofs.Common.{get_or, refl, sym, ◌∙◌, subst, inl, inr, arith, Some, None}
+use Rattle.std.proofs.Common.{ℕ, ◌≡◌, ◌≢◌, ◌<◌, ◌≤◌, ◌⊎◌, List, [], ◌∷◌, ◌++◌, length}
+use Rattle.std.proofs.Common.{refl, sym, ◌∙◌, subst, inl, inr, arith, Some, None}
 use Rattle.std.proofs.lemmas.Bool.{cases_lt}
 use Rattle.std.proofs.lemmas.List.{get_or_past}
 use Rattle.ysymbols.proofs.Numbers.{below_or_last}
@@ -11,12 +11,6 @@ use Rattle.ylalr.proofs.GotoSteps.{lookup_none, lookup_other, lookup_new}
 use Rattle.ylalr.proofs.StateSteps.{push_old, push_new, push_length}
 
 -- ---- a row
-
-pub finds_nothing : (a : ℕ) → Finds [] a a
-finds_nothing a = record {
-  within = λ x k e. absurd (cc);
-  found = λ n l h. absurd (omega arith);
-}
 
 pub finds_more : (row : List Goto) (a b c : ℕ) → c ≡ b → Finds row a b → Finds row a c
 finds_more row a b c e f = subst (Finds row a) (sym e) f

@@ -6,7 +6,7 @@ use Rattle.ylalr.specs.States.{GotoIs, IsKernel, HasKernel, AddsOne, Finds, set_
 use Rattle.ylalr.proofs.StateSteps.{extends_then}
 use Rattle.ylalr.proofs.GotoSteps.{joins, Rowing, rowing_kept, rowing_skip, rowing_push, goto_kept}
 use Rattle.ylalr.proofs.GotoSteps.{goto_none, goto_some}
-use Rattle.ylalr.proofs.NumberSteps.{finds_nothing, finds_more, finds_push}
+use Rattle.ylalr.proofs.NumberSteps.{finds_more, finds_push}
 use Rattle.ylalr.proofs.collection.gotos_of.Goals.{After-as_slice}
 use Rattle.ylalr.proofs.collection.gotos_of.Goals as goal
 
