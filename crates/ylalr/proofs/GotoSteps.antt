@@ -1,6 +1,6 @@
 -- Gotos: one more in a row, one more row, and rows that stay right when states are added.
 use Rattle.std.proofs.Common.{ℕ, ◌≡◌, ◌≢◌, ◌<◌, ◌≤◌, ◌+◌, ◌⊎◌, ◌==◌, List, [], ◌∷◌, ◌++◌, length}
-use Rattle.std.proofs.Common.{get_or, refl, sym, ◌∙◌, ap, subst, inl, inr, arith, Option, Some}
+use Rattle.std.proofs.Common.{refl, sym, ◌∙◌, ap, subst, inl, inr, arith, Option, Some}
 use Rattle.std.proofs.Common.{None, if◌then◌else◌}
 use Rattle.std.specs.List.{All}
 use Rattle.std.proofs.lemmas.Bool.Decides.{nat_tests}
@@ -13,9 +13,7 @@ use Rattle.ylalr.specs.declared.gotos.Goto.{Goto}
 use Rattle.ylalr.specs.Sets.{Kernel, ItemsOf, IsAdvanced}
 use Rattle.ylalr.specs.Gotos.{lookup, IsAscendingRow}
 use Rattle.ylalr.specs.States.{StateLists, set_at, AreStates, Extends, MayJoin, IsKernel, GotoIs}
-use Rattle.ylalr.specs.States.{RowIs, RowsAre}
 use Rattle.ylalr.proofs.Cores.{may_join, moved_dot}
-use Rattle.ylalr.proofs.StateSteps.{push_old, push_new}
 use Rattle.ysymbols.proofs.Numbers.{below_or_last}
 use Rattle.std.proofs.lemmas.Bool.{cases_lt}
 
@@ -60,13 +58,13 @@ test_other a b x y n = grind (arith, nat_tests)
 test_same : {X : Type 0} (a b : ℕ) (x y : X) → a ≡ b → (if a == b then x else y) ≡ x
 test_same a b x y n = grind (arith, nat_tests)
 
-lookup_other : (row : List Goto) (t : Goto) (x : ℕ) → t.symbol ≢ x →
+pub lookup_other : (row : List Goto) (t : Goto) (x : ℕ) → t.symbol ≢ x →
     lookup (row ++ t ∷ []) x ≡ lookup row x
 lookup_other [] t x n = test_other t.symbol x (Some t.state) None n
 lookup_other (a ∷ row) t x n = ap (λ (o : Option ℕ). if a.symbol == x then Some a.state else o)
     (lookup_other row t x n)
 
-lookup_new : (row : List Goto) (t : Goto) (x : ℕ) → All (λ a. a.symbol < x) row → t.symbol ≡ x →
+pub lookup_new : (row : List Goto) (t : Goto) (x : ℕ) → All (λ a. a.symbol < x) row → t.symbol ≡ x →
     lookup (row ++ t ∷ []) x ≡ Some t.state
 lookup_new [] t x f e = test_same t.symbol x (Some t.state) None e
 lookup_new (a ∷ row) t x f e =
@@ -74,7 +72,7 @@ lookup_new (a ∷ row) t x f e =
     test_other a.symbol x (Some a.state) (lookup (row ++ t ∷ []) x) (omega arith) ∙ lookup_new row t
     x (All-tail (λ (b : Goto). b.symbol < x) a row f) e
 
-lookup_none : (row : List Goto) (x : ℕ) → All (λ a. a.symbol < x) row → lookup row x ≡ None
+pub lookup_none : (row : List Goto) (x : ℕ) → All (λ a. a.symbol < x) row → lookup row x ≡ None
 lookup_none [] x f = refl
 lookup_none (a ∷ row) x f =
     let l = All-head (λ (b : Goto). b.symbol < x) a row f in
@@ -139,21 +137,3 @@ rowing_push g s q n m row z r = record {
     go x (inr e) = subst (λ y. GotoIs g s q y (lookup (row ++ record { symbol = n; state = m } ∷ [])
         y)) (sym e) (subst (GotoIs g s q n)
         (sym (lookup_new row (record { symbol = n; state = m }) n r.below refl)) z)
-
-pub rows_push : (g : ContextFree) (s t : StateLists) (n : ℕ) (xs : List (List Goto))
-    (o : List Goto) → Extends s t → n ≤ length s.closures → length xs ≡ n → RowsAre g s n xs →
-    RowIs g t n o → IsAscendingRow o → RowsAre g t (n + 1) (xs ++ o ∷ [])
-rows_push g s t n xs o e l z r i a = record {
-  gotos = λ q h. go q (below_or_last q n h);
-  order = λ q h. asc q (below_or_last q n h);
-}
-  where
-    go : (q : ℕ) → (q < n) ⊎ (q ≡ n) → RowIs g t q (get_or (xs ++ o ∷ []) q [])
-    go q (inl h) = subst (RowIs g t q) (sym (push_old xs o [] q (omega arith)))
-        (λ x k. goto_kept g s t q x (lookup (get_or xs q []) x) e (omega arith) (r.gotos q h x k))
-    go q (inr h) = subst (RowIs g t q) (sym (push_new xs o [] q (h ∙ sym z)))
-        (subst (λ p. RowIs g t p o) (sym h) i)
-
-    asc : (q : ℕ) → (q < n) ⊎ (q ≡ n) → IsAscendingRow (get_or (xs ++ o ∷ []) q [])
-    asc q (inl h) = subst IsAscendingRow (sym (push_old xs o [] q (omega arith))) (r.order q h)
-    asc q (inr h) = subst IsAscendingRow (sym (push_new xs o [] q (h ∙ sym z))) a

@@ -17,6 +17,9 @@ pub mod ListSteps
 pub mod Live
 pub mod LookSteps
 pub mod ItemRowSteps
+pub mod NumberSteps
+pub mod OneCollection
+pub mod RowSteps
 pub mod SearchSteps
 pub mod StateSteps
 pub mod Vanish

@@ -15,7 +15,7 @@ use Rattle.yrows.specs.Rows.{BitRows, Holds, word_of}
 use Rattle.ylalr.specs.Items.{Lookahead}
 use Rattle.ylalr.specs.Sets.{given, IsClosure}
 use Rattle.ylalr.specs.States.{StateLists, set_at, start_item, AreStates, IsState, GotoIs}
-use Rattle.ylalr.specs.States.{Overflows}
+use Rattle.ylalr.specs.States.{Overflows, RowsAre}
 use Rattle.ylalr.specs.Looks.{SoundLooks, ClosedLooks}
 use Rattle.ylalr.specs.ItemRows.{ItemRows, IsRowOf, rows_at}
 use Rattle.ylalr.specs.Collection.{HasStates, IsGoto, Guide, IsGuide, TooMany}
@@ -48,21 +48,28 @@ module _ (v : GrammarValue) (f : WellFormed v.bare) (t : StateLists) (rows : Lis
       IsGoto (record { grammar = v; states = t.closures; gotos = rows }) q x (goto_of rows q x)
   goto_is q x h l = goto_at q x (goto_of rows q x) (gotos q x h l)
 
-  pub has_states : length t.closures ≤ most_states →
-      HasStates (record { grammar = v; states = t.closures; gotos = rows })
-  has_states few = record {
-    first = core_start v.bare f (set_at t.closures 0)
-        (subst (λ k. IsClosure v.bare k (set_at t.closures 0)) are.first
-        (are.each 0 are.some).closure);
-    core = λ q h. (are.each q h).core;
-    filled = λ q h. state_filled v.bare (set_at t.kernels q) (set_at t.closures q) (are.each q h);
-    every = λ p i c. every v.bare f t (goto_of rows) are gotos p i c;
-    once = λ p q n a b c e. once v.bare t are p q n a b c e;
-    ordered = λ q h. (are.each q h).order;
-    range = λ q h. (are.each q h).range;
-    few = few;
-    leads = λ q x h l. goto_is q x h l;
-  }
+-- states and gotos, as callers see them
+pub has_states : (v : GrammarValue) → WellFormed v.bare → (t : StateLists)
+    (rows : List (List Goto)) → AreStates v.bare t → RowsAre v.bare t (length t.closures) rows →
+    length rows ≡ length t.closures → length t.closures ≤ most_states →
+    HasStates (record { grammar = v; states = t.closures; gotos = rows })
+has_states v f t rows are r counted few = record {
+  first = core_start v.bare f (set_at t.closures 0)
+      (subst (λ k. IsClosure v.bare k (set_at t.closures 0)) are.first
+      (are.each 0 are.some).closure);
+  core = λ q h. (are.each q h).core;
+  filled = λ q h. state_filled v.bare (set_at t.kernels q) (set_at t.closures q) (are.each q h);
+  every = λ p i c. every v.bare f t (goto_of rows) are (λ q x h l. r.gotos q h x l) p i c;
+  once = λ p q n a b c e. once v.bare t are p q n a b c e;
+  ordered = λ q h. (are.each q h).order;
+  range = λ q h. (are.each q h).range;
+  few = few;
+  leads = λ q x h l. goto_is v f t rows are (λ q x h l. r.gotos q h x l) q x h l;
+  numbered = r.found;
+  counted = counted;
+  sorted = r.order;
+  symbols = r.symbols;
+}
 
 pub too_many : (g : ContextFree) → Overflows g → TooMany g
 too_many g o = record {

@@ -5,7 +5,7 @@ use Rattle.std.specs.Prelude.{Option, MatchOption, IsTrue}
 use Rattle.ysymbols.specs.Grammar.{ContextFree, GrammarValue}
 use Rattle.ylalr.specs.declared.items.Item.{Item}
 use Rattle.ylalr.specs.declared.gotos.Goto.{Goto}
-use Rattle.ylalr.specs.Gotos.{goto_of}
+use Rattle.ylalr.specs.Gotos.{goto_of, IsAscendingRow, IsFound, IsRowBelow}
 use Rattle.yrows.specs.Limits.{most_states}
 use Rattle.ylalr.specs.declared.fault.BuildFault.{BuildFault}
 use Rattle.ylalr.specs.Items.{InCore, IsCore, Lookahead}
@@ -36,7 +36,13 @@ IsGoto m q x to = (p : List ℕ) → IsCore (bare_of m) p (state_of m q) →
     MatchOption to ((i : Item) → InCore (bare_of m) (x ∷ p) i → ⊥) (λ n. (n < length m.states) ×
     IsCore (bare_of m) (x ∷ p) (state_of m n))
 
+-- the gotos of state q
+abbrev pub row_of : Collection → ℕ → List Goto
+row_of m q = slice_index_or m.gotos q []
+
 -- The list has each state, a core that is not empty, once; at most 16,384; and the gotos are right.
+-- State 0 is that of the empty prefix, and each other has the next number when a goto first leads to
+-- it. The gotos of each state are a list by symbol. So there is one collection of a grammar.
 pub record HasStates (m : Collection) : Type 0 where
   pub first : IsCore (bare_of m) [] (state_of m 0)
   pub core : (q : ℕ) → q < length m.states → (p : List ℕ) × IsCore (bare_of m) p (state_of m q)
@@ -50,6 +56,10 @@ pub record HasStates (m : Collection) : Type 0 where
   pub few : length m.states ≤ most_states
   pub leads : (q x : ℕ) → q < length m.states → x < (bare_of m).symbols →
       IsGoto m q x (goto_in m q x)
+  pub numbered : (n : ℕ) → 0 < n → n < length m.states → IsFound m.gotos n
+  pub counted : length m.gotos ≡ length m.states
+  pub sorted : (q : ℕ) → q < length m.states → IsAscendingRow (row_of m q)
+  pub symbols : (q : ℕ) → q < length m.states → IsRowBelow (bare_of m).symbols (row_of m q)
 
 -- The gotos and the lookaheads of a collection, as functions.
 pub record Guide : Type 0 where

@@ -1,9 +1,9 @@
 //! All states of a grammar, and their gotos.
 
-ghost use Rattle.std.specs.Prelude.{◌≡◌, ◌<◌, length, IfOk, IfErr, OnOk};
-ghost use Rattle.ylalr.specs.Gotos.{IsAscendingRow};
-ghost use Rattle.ylalr.specs.States.{AreStates, Extends, IsFresh, HasKernel, IsNumber, IsSorted};
-ghost use Rattle.ylalr.specs.States.{MayJoin, RowIs, AreCollected};
+ghost use Rattle.std.specs.Prelude.{◌≡◌, ◌<◌, ◌+◌, length, IfOk, IfErr, OnOk};
+ghost use Rattle.ylalr.specs.Gotos.{IsAscendingRow, IsRowBelow};
+ghost use Rattle.ylalr.specs.States.{AddsOne, AreStates, Extends, Finds, IsFresh, HasKernel};
+ghost use Rattle.ylalr.specs.States.{IsNumber, IsSorted, MayJoin, RowIs, AreCollected};
 ghost use Rattle.ylalr.specs.Collection.{IsFault};
 ghost use Rattle.ylalr.specs.Sets.{AreFirstRules, HasRules};
 ghost use Rattle.ylalr.specs.Finder.{FitFinder};
@@ -44,6 +44,9 @@ fn join(
     ensures fit { OnOk result (FitFinder grammar.now.bare finder.new) }
     ensures extends { OnOk result (Extends finder.old.states finder.new.states) }
     ensures found { IfOk result (λ n. HasKernel finder.new.states kernel.now n) }
+    ensures next { IfOk result (λ n. n ≡ length finder.old.states.closures) }
+    ensures more { OnOk result
+        (length finder.new.states.closures ≡ length finder.old.states.closures + 1) }
     ensures fault { IfErr result (λ e. IsFault grammar.now.bare e) }
 {
     let items = closure(
@@ -74,6 +77,7 @@ fn number(
     ensures fit { OnOk result (FitFinder grammar.now.bare finder.new) }
     ensures extends { OnOk result (Extends finder.old.states finder.new.states) }
     ensures found { IfOk result (λ o. IsNumber finder.new.states kernel.now o) }
+    ensures adds { IfOk result (λ o. AddsOne finder.old.states o finder.new.states) }
     ensures fault { IfErr result (λ e. IsFault grammar.now.bare e) }
 {
     if kernel.is_empty() {
@@ -104,6 +108,9 @@ fn gotos_of(
     ensures extends { OnOk result (Extends finder.old.states finder.new.states) }
     ensures row { IfOk result (λ row. RowIs grammar.now.bare finder.new.states q row) }
     ensures order { IfOk result (λ row. IsAscendingRow row) }
+    ensures symbols { IfOk result (λ row. IsRowBelow grammar.now.bare.symbols row) }
+    ensures finds { IfOk result (λ row. Finds row (length finder.old.states.closures)
+        (length finder.new.states.closures)) }
     ensures fault { IfErr result (λ e. IsFault grammar.now.bare e) }
 {
     kernels.fill(grammar, finder.states.items(q))?;
@@ -147,7 +154,8 @@ fn first_state(
 
 /// What finds states, with the first state.
 fn start_finder(alloc: Global, grammar: &Grammar) -> Result<Finder, AllocError>
-    ensures { IfOk result (λ f. FitFinder grammar.now.bare f) }
+    ensures fit { IfOk result (λ f. FitFinder grammar.now.bare f) }
+    ensures one { IfOk result (λ f. length f.states.closures ≡ 1) }
 {
     let _well_formed = grammar.symbols();
     let first_rules = first_rules(alloc, grammar)?;

@@ -3,12 +3,12 @@
 //!
 //! `build` goes one way. From the rules it finds which symbols vanish, what each begins with
 //! (`first`), and which rules it leads to after a dot (`first_rules`). From these it makes the
-//! states (`collection`). A state is its kernel, which an `indexmap` numbers, and the closure of
-//! that: a list of items by rule and dot. The items of a state, sorted by the symbol after the dot
-//! (`buckets`), are the kernels of its gotos, and each state has a list of its gotos by symbol
-//! (`gotos`).
+//! states (`collection`), numbered as gotos find them. A state is its kernel, which a map numbers,
+//! and the closure of that: a list of items by rule and dot. The items of a state, sorted by the
+//! symbol after the dot (`buckets`), are the kernels of its gotos, and each state has a list of its
+//! gotos by symbol (`gotos`).
 //!
-//! What one row passes on to another stands in rows of bits with links between them (`yspread`):
+//! What one row passes on to another stands in rows of bits with links between them (`yrows`):
 //! rows give along their links until none grows. A row that grew waits, at most once, until its
 //! turn in a round; at first all wait, most in front of those to which they lead. So left sides
 //! get the first tokens and the first rules of what their bodies can begin with (`fronts`).

@@ -10,8 +10,7 @@ pub returns-clause-states : goal.returns-clause-states
 returns-clause-states c =
     let P = c.in_ok-lr0.lr0 in
     let fit = c.in_ok-lr0.ensures.fit in
-    has_states P.grammar fit.well_formed P.states P.gotos fit.states
-    (λ q x h l. fit.gotos.gotos q h x l) fit.few
+    has_states P.grammar fit.well_formed P.states P.gotos fit.states fit.gotos fit.counted fit.few
 
 false_true : false ≡ true → ⊥
 false_true h = grind (arith)

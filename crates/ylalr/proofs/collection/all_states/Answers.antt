@@ -3,7 +3,7 @@ use Rattle.std.proofs.Common.{arith}
 use Rattle.ylalr.specs.declared.gotos.Goto.{Goto}
 use Rattle.ylalr.specs.States.{RowsAre, RowIs}
 use Rattle.ylalr.proofs.StateSteps.{push_length}
-use Rattle.ylalr.proofs.GotoSteps.{rows_push}
+use Rattle.ylalr.proofs.RowSteps.{rows_push}
 use Rattle.ylalr.proofs.collection.all_states.Goals as goal
 
 pub loop-alloc-preserved : goal.loop-alloc-preserved
@@ -20,7 +20,8 @@ loop-alloc-preserved c =
     let less : length xs < length s.closures = omega arith in
     let r : RowIs g t (length xs) row = subst (λ q. RowIs g t q row) c.count-in-loop-alloc-2.ensures
     e.row in
-    let p = rows_push g s t (length xs) xs row e.extends i.within refl i.rows r e.order in
+    let p = rows_push g s t (length xs) xs row e.extends less refl i.rows r e.order e.symbols e.finds
+    in
     record {
       fit = e.fit;
       sorted = e.sorted;

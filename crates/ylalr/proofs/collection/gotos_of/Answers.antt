@@ -2,10 +2,11 @@ use Rattle.std.proofs.Common.{ℕ, ◌≡◌, ◌<◌, ◌≤◌, ◌+◌, ◌�
 use Rattle.std.proofs.Common.{ap, subst, sym, arith}
 use Rattle.ylalr.specs.declared.items.Item.{Item}
 use Rattle.ylalr.specs.Sets.{InRange, IsAscending}
-use Rattle.ylalr.specs.States.{GotoIs, IsKernel, HasKernel, set_at}
+use Rattle.ylalr.specs.States.{GotoIs, IsKernel, HasKernel, AddsOne, Finds, set_at}
 use Rattle.ylalr.proofs.StateSteps.{extends_then}
 use Rattle.ylalr.proofs.GotoSteps.{joins, Rowing, rowing_kept, rowing_skip, rowing_push, goto_kept}
 use Rattle.ylalr.proofs.GotoSteps.{goto_none, goto_some}
+use Rattle.ylalr.proofs.NumberSteps.{finds_more, finds_push}
 use Rattle.ylalr.proofs.collection.gotos_of.Goals.{After-as_slice}
 use Rattle.ylalr.proofs.collection.gotos_of.Goals as goal
 
@@ -59,6 +60,8 @@ loop-x-preserved-in-Some c =
     c.in-Some.is e.found in
     let nl : c.in-Some.n < length t.closures = subst (λ l. c.in-Some.n < l) e.fit.states.are.same
     hk.0 in
+    let next = subst (λ (o : Option ℕ). AddsOne s o t) c.in-Some.is e.adds in
+    let a = length c.args.finder.now.states.closures in
     record {
       fit = e.fit;
       extends = extends_then c.args.finder.now.states s t c.loop-x.invariant.extends e.extends;
@@ -68,6 +71,9 @@ loop-x-preserved-in-Some c =
           (goto_some g s t c.args.q c.loop-x.x c.in-Some.n k (kernel at).advanced e.extends
           (within at) nl hk.1) (rowing_kept g s t c.args.q c.loop-x.x c.loop-x.row e.extends
           (within at) c.loop-x.invariant.rowing));
+      finds = subst (λ row. Finds row a (length t.closures)) (sym c.in_ok-push.ensures)
+          (finds_push c.loop-x.row a (length s.closures) c.loop-x.x c.in-Some.n
+          c.loop-x.invariant.rowing.below c.loop-x.invariant.finds (length t.closures) next);
     }
 
 pub loop-x-preserved : goal.loop-x-preserved
@@ -95,4 +101,8 @@ loop-x-preserved c =
       until = omega arith;
       rowing = rowing_skip g t q x n c.loop-x.row (omega arith) none
           (rowing_kept g s t q x c.loop-x.row e.extends (within at) c.loop-x.invariant.rowing);
+      finds = finds_more c.loop-x.row (length c.args.finder.now.states.closures)
+          (length s.closures) (length t.closures)
+          (subst (λ (o : Option ℕ). AddsOne s o t) c.in_default.is e.adds)
+          c.loop-x.invariant.finds;
     }

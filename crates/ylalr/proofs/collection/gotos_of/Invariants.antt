@@ -1,6 +1,6 @@
-use Rattle.std.proofs.Common.{◌≤◌, ◌-◌}
+use Rattle.std.proofs.Common.{◌≤◌, ◌-◌, length}
 use Rattle.ylalr.specs.Finder.{FitFinder}
-use Rattle.ylalr.specs.States.{Extends}
+use Rattle.ylalr.specs.States.{Extends, Finds}
 use Rattle.ylalr.proofs.GotoSteps.{Rowing}
 use Rattle.ylalr.proofs.collection.gotos_of.Given as goal
 
@@ -10,6 +10,7 @@ invariant-loop-x l = record {
   extends : Extends l.initial.finder.states l.finder.states;
   until : l.x ≤ l.symbols;
   rowing : Rowing l.grammar.bare l.finder.states l.q l.x l.row;
+  finds : Finds l.row (length l.initial.finder.states.closures) (length l.finder.states.closures);
 }
 
 abbrev pub decreases-loop-x : goal.decreases-loop-x

@@ -8,7 +8,7 @@ returns-clause-states c =
     let P = c.self.inside.lr0 in
     let fit = c.self.invariant.fit in
     subst HasStates c.self.view_is (has_states P.grammar fit.well_formed
-    P.states P.gotos fit.states (λ q x h l. fit.gotos.gotos q h x l) fit.few)
+    P.states P.gotos fit.states fit.gotos fit.counted fit.few)
 
 pub returns-clause-guide : goal.returns-clause-guide
 returns-clause-guide c =
