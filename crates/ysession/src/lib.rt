@@ -2,8 +2,10 @@
 //! verdict on a list of tokens: whether it is a sentence, and how many steps its parse takes.
 #![tactic(auto)]
 
+pub mod expected;
 pub mod session;
 mod shown;
+pub mod states;
 mod unwind;
 mod verdict;
 
