@@ -1,6 +1,6 @@
 //! Which tokens could come next: each is tried over the states of a stack, which stay.
 
-ghost use Rattle.std.specs.Prelude.{◌≡◌, ◌-◌, ◌+◌, IfOk};
+ghost use Rattle.std.specs.Prelude.{◌≡◌, ◌-◌, ◌+◌, ◌≤◌, IfOk};
 ghost use Rattle.ymachine.specs.declared.machine.Mode.TheVariants.{Running};
 ghost use Rattle.ymachine.specs.Machine.{Configuration, symbols};
 ghost use Rattle.ymachine.specs.MachineOver.{machine_over};
@@ -11,6 +11,7 @@ ghost use Rattle.ysession.specs.Expected.{Says, SaysWithin, Shows, can_be_next, 
 
 use crate::session::Session;
 use crate::states::{act, stack_states};
+use crate::verdict::MOST_STEPS;
 use std::alloc::{AllocError, Global};
 use ylalr::END;
 use ymachine::machine::Mode;
@@ -18,9 +19,6 @@ use ymachine::tables::grammar_of;
 use ysymbols::Sym;
 use ytables::{Action, Tables};
 use ytokens::tokens::is_input;
-
-/// The most steps that may stand.
-const MOST_STEPS: usize = 1_000_000;
 
 /// What is known of a token that might come next.
 #[derive(Clone, Copy, Debug, PartialEq, Eq)]
@@ -57,9 +55,10 @@ fn tried(
     token: Sym,
     most: usize,
 ) -> Result<Trial, AllocError>
-    ensures { IfOk result (λ trial. (first : Configuration)
+    ensures shows { IfOk result (λ trial. (first : Configuration)
         → GoesOn tables.now first token states.old.items
         → Shows (machine_over tables.now) first token most trial.outlook) }
+    ensures few { IfOk result (λ trial. trial.reductions ≤ most) }
 {
     for reductions in 0..most {
         let outlook = match act(tables, states, token)? {
@@ -90,9 +89,10 @@ pub fn outlook_over(
     token: Sym,
     most: usize,
 ) -> Result<Trial, AllocError>
-    ensures { IfOk result (λ trial. (c : Configuration) → c.mode ≡ Running
+    ensures says { IfOk result (λ trial. (c : Configuration) → c.mode ≡ Running
         → AreStates tables.now (symbols c.stack) states.now
         → SaysWithin (machine_over tables.now) c token most trial.outlook) }
+    ensures few { IfOk result (λ trial. trial.reductions ≤ most) }
 {
     if !can_be_next(tables, token) {
         let (outlook, reductions) = (Outlook::Unexpected, 0);

@@ -18,7 +18,7 @@ use ytables::{Action, Tables};
 use ytokens::tokens::Tokens;
 
 /// The most steps that may stand.
-const MOST_STEPS: usize = 1_000_000;
+pub(crate) const MOST_STEPS: usize = 1_000_000;
 
 /// What the steps of a parse come to, from its first configuration on (Aho, Sethi and Ullman, 4.7,
 /// the LR parsing algorithm). Tables and tokens have one verdict.

@@ -24,4 +24,4 @@ returns c =
     let same = ap machine_over c.tables.ensures ∙ machine_over_tables s in
     says_in (machine_of s) h token most outlook c.room_for-most.ensures
     (subst (λ (m : Machine). SaysWithin m h.now token most outlook) same
-    (c.in_ok-outlook.ensures h.now c.requires are))
+    (c.in_ok-outlook.ensures.says h.now c.requires are))

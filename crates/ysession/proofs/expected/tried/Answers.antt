@@ -19,8 +19,8 @@ loop-reductions-preserved c = λ first g.
     (subst (λ (a : Action). IsStep t r.at c.args.token a new) c.in-Reduce.is
     (c.in_ok-act.ensures r.at r.goes))
 
-pub returns-in-loop-reductions : goal.returns-in-loop-reductions
-returns-in-loop-reductions c = λ first g.
+pub returns-in-loop-reductions-clause-shows : goal.returns-in-loop-reductions-clause-shows
+returns-in-loop-reductions-clause-shows c = λ first g.
     let t = c.args.tables.now in
     let token = c.args.token in
     let l = c.loop-reductions in
@@ -40,8 +40,8 @@ returns-in-loop-reductions c = λ first g.
           (subst (λ (a : Action). IsStep t r.at token a new) w.in-Error.is step))
     ]
 
-pub returns : goal.returns
-returns c = λ first g.
+pub returns-clause-shows : goal.returns-clause-shows
+returns-clause-shows c = λ first g.
     let l = c.loop-reductions in
     by_limit c.args.tables.now first c.args.token l.reductions l.states.items (l.invariant first g)
     c.args.most
