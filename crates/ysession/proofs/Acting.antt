@@ -1,5 +1,5 @@
 -- What is done in the state on top is the machine's step.
-use Rattle.std.proofs.Common.{ℕ, ◌≡◌, ◌≢◌, ◌<◌, ◌≤◌, ◌+◌, ◌==◌, Bool, true, false, if◌then◌else◌}
+use Rattle.std.proofs.Common.{ℕ, ◌≡◌, ◌≢◌, ◌<◌, ◌≤◌, ◌==◌, Bool, true, false, if◌then◌else◌}
 use Rattle.std.proofs.Common.{List, [], ◌∷◌, ◌++◌, Option, Some, None, length, refl, sym, ◌∙◌, ap}
 use Rattle.std.proofs.Common.{subst, arith}
 use Rattle.std.specs.Prelude.{◌&&◌, nat_lt, unwrap_or, IsSome}
@@ -12,14 +12,14 @@ use Rattle.ytables.specs.declared.cell.Action.TheVariants as actions
 use Rattle.ytables.specs.Tables.{TablesValue as Tables, action_at}
 use Rattle.ymachine.specs.declared.machine.StepKind.{StepKind}
 use Rattle.ymachine.specs.Tree.{leaf}
-use Rattle.ymachine.specs.Machine.{Machine, Configuration, Entry, Move, Accept, symbols, lookahead}
+use Rattle.ymachine.specs.Machine.{Machine, Configuration, Entry, Move, symbols, lookahead}
 use Rattle.ymachine.specs.Machine.{entry_of, without_last, next, next_in, step_by, shift_step}
 use Rattle.ymachine.specs.Machine.{reduce_step, discard_step, detect_step}
 use Rattle.ymachine.specs.Tables.{rule_of, goto_at, goto_from, cell_at, cell_in, state_after}
 use Rattle.ymachine.specs.MachineOver.{machine_over, move_of}
 use Rattle.ymachine.proofs.Ends.{join}
 use Rattle.ymachine.proofs.StepKinds.{symbols_without}
-use Rattle.ysession.specs.States.{Basis, AreStates, GoesOn, IsFor, IsStep, acted, below, reduced}
+use Rattle.ysession.specs.States.{Basis, AreStates, GoesOn, IsStep, acted, below, reduced}
 use Rattle.ysession.specs.States.{step_of, top_of}
 use Rattle.ysession.proofs.RunStates.{walk-append, on_top, pushed, cut}
 

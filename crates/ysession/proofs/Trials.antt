@@ -1,6 +1,6 @@
 -- What a trial of a token over the states of a stack shows.
 use Rattle.std.proofs.Common.{ℕ, zero, suc, ◌≡◌, ◌≢◌, ◌-◌, ◌+◌, ◌<◌, ◌≤◌, ◌==◌, List, [], ◌∷◌}
-use Rattle.std.proofs.Common.{Option, Some, None, IsSome, IsTrue, Bool, true, false, length, refl}
+use Rattle.std.proofs.Common.{Option, Some, None, IsSome, Bool, true, false, refl}
 use Rattle.std.proofs.Common.{sym, subst, arith, ◌∙◌, ap, if◌then◌else◌, ◌⊎◌, inl, inr}
 use Rattle.std.specs.Prelude.{is_some, unwrap_or}
 use Rattle.std.specs.Option.{option_map}
@@ -22,7 +22,7 @@ use Rattle.ymachine.specs.MachineOver.{machine_over}
 use Rattle.ymachine.specs.Past.{most_steps, position}
 use Rattle.ysession.specs.declared.expected.Outlook.{Outlook}
 use Rattle.ysession.specs.declared.expected.Outlook.TheVariants.{Unexpected, Expected, Untold}
-use Rattle.ysession.specs.Expected.{IsCutOff, IsExpected, IsLong, IsReducing, IsTaken, Reduces, Says}
+use Rattle.ysession.specs.Expected.{IsExpected, IsReducing, IsTaken, Reduces, Says}
 use Rattle.ysession.specs.Expected.{SaysWithin, Shows, can_be_next, edits_for, taking, with_next}
 use Rattle.ysession.specs.States.{AreStates, GoesOn, IsStep}
 

@@ -1,5 +1,5 @@
 -- Which tokens could come next.
-use Rattle.std.specs.Prelude.{ℕ, suc, ◌≡◌, ◌+◌, ◌≤◌, List, [], ◌∷◌, length, Option, Some, IsSome}
+use Rattle.std.specs.Prelude.{ℕ, suc, ◌≡◌, ◌+◌, ◌≤◌, [], length, Option, Some, IsSome}
 use Rattle.std.specs.Prelude.{Bool, true}
 use Prim.Native.Nat.{zero}
 use Rattle.std.specs.Option.{option_map}

@@ -5,7 +5,7 @@ ghost use Rattle.ymachine.specs.declared.machine.Mode.TheVariants.{Running};
 ghost use Rattle.ymachine.specs.Machine.{Configuration, symbols};
 ghost use Rattle.ymachine.specs.MachineOver.{machine_over};
 ghost use Rattle.ymachine.specs.Past.{most_steps, position};
-ghost use Rattle.ysession.specs.Session.{history_of, machine_of};
+ghost use Rattle.ysession.specs.Session.{history_of, machine_of, tables_of};
 ghost use Rattle.ysession.specs.States.{AreStates, GoesOn};
 ghost use Rattle.ysession.specs.Expected.{Says, SaysWithin, Shows, can_be_next, edits_for};
 
@@ -121,14 +121,37 @@ fn room_for(session: &Session, token: Sym) -> usize
 }
 
 /// What is known of a token as one that could come next in a session that goes on.
-fn outlook_running(alloc: Global, session: &Session, token: Sym) -> Result<Outlook, AllocError>
-    requires { (history_of session.now).now.mode ≡ Running }
+fn outlook_running(
+    alloc: Global,
+    session: &Session,
+    states: &[usize],
+    token: Sym,
+) -> Result<Outlook, AllocError>
+    requires states { AreStates (tables_of session.now) (symbols (history_of session.now).now.stack)
+        states.now }
+    requires running { (history_of session.now).now.mode ≡ Running }
     ensures { IfOk result (Says (machine_of session.now) (history_of session.now) token) }
 {
-    let states = stack_states(alloc, session)?;
     let most = room_for(session, token);
-    let Trial { outlook, .. } = outlook_over(alloc, session.tables(), &states, token, most)?;
+    let Trial { outlook, .. } = outlook_over(alloc, session.tables(), states, token, most)?;
     Ok(outlook)
+}
+
+/// The same of a session of whose stack these are the states, as `stack_states` gives them.
+pub fn outlook_at(
+    alloc: Global,
+    session: &Session,
+    states: &[usize],
+    token: Sym,
+) -> Result<Outlook, AllocError>
+    requires { AreStates (tables_of session.now) (symbols (history_of session.now).now.stack)
+        states.now }
+    ensures { IfOk result (Says (machine_of session.now) (history_of session.now) token) }
+{
+    match session.view().mode() {
+        Mode::Running => outlook_running(alloc, session, states, token),
+        Mode::Popping | Mode::Accepted | Mode::Failed => Ok(Outlook::Unexpected),
+    }
 }
 
 /// What is known of a token as one that could come next in a session, which stays as it is. It is
@@ -137,8 +160,6 @@ fn outlook_running(alloc: Global, session: &Session, token: Sym) -> Result<Outlo
 pub fn outlook_in(alloc: Global, session: &Session, token: Sym) -> Result<Outlook, AllocError>
     ensures { IfOk result (Says (machine_of session.now) (history_of session.now) token) }
 {
-    match session.view().mode() {
-        Mode::Running => outlook_running(alloc, session, token),
-        Mode::Popping | Mode::Accepted | Mode::Failed => Ok(Outlook::Unexpected),
-    }
+    let states = stack_states(alloc, session)?;
+    outlook_at(alloc, session, &states, token)
 }

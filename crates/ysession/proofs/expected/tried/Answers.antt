@@ -1,6 +1,5 @@
-use Rattle.std.proofs.Common.{◌≡◌, sym, subst, arith}
+use Rattle.std.proofs.Common.{sym, subst, arith}
 use Rattle.ytables.specs.declared.cell.Action.{Action}
-use Rattle.ytables.specs.declared.cell.Action.TheVariants as actions
 use Rattle.ymachine.specs.MachineOver.{machine_over}
 use Rattle.ysession.specs.declared.expected.Outlook.{Outlook}
 use Rattle.ysession.specs.Expected.{Shows}

@@ -2,7 +2,7 @@ use Rattle.std.proofs.Common.{◌∙◌, ap}
 use Rattle.ymachine.specs.Machine.{Configuration}
 use Rattle.ysession.specs.Session.{history_of, machine_of}
 use Rattle.ysession.proofs.Trials.{none_expected, not_running}
-use Rattle.ysession.proofs.expected.outlook_in.Goals as goal
+use Rattle.ysession.proofs.expected.outlook_at.Goals as goal
 
 pub returns-in-Popping : goal.returns-in-Popping
 returns-in-Popping c =
