@@ -234,8 +234,8 @@ unsigned int sulderko_state(sulderko_handle *handle, sulderko_place *place);
    i, one of sulderko_outlook, is that of the token with the number i, as the table has it. A token
    is expected where, inserted now, it would be shifted after reductions alone; $end, number 0,
    where with no upcoming token the input would be accepted after reductions alone. That is tried,
-   token by token, and all of it undone: the session goes on as it was. error, number 1, is never
-   expected, and none is where the parse is popping or has halted. */
+   token by token, and the session stays as it is. error, number 1, is never expected, and none is
+   where the parse is popping or has halted. */
 unsigned int sulderko_expected(sulderko_handle *handle, unsigned char *out, size_t room,
                                size_t *len);
 

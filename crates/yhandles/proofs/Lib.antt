@@ -1,4 +1,4 @@
 pub mod Boxes
 pub mod Handles
 pub mod Travels
-pub mod Trials
+pub mod Told

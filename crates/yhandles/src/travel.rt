@@ -28,7 +28,7 @@ fn go_up(session: &mut Session, count: usize) -> Option<StepFault>
 }
 
 /// At most so many undos.
-pub(crate) fn go_down(session: &mut Session, count: usize)
+fn go_down(session: &mut Session, count: usize)
     ensures downs { history_of session.new ≡ back_by count (history_of session.old) }
     ensures stays { setting_of session.new ≡ setting_of session.old }
 {

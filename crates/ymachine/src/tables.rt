@@ -39,7 +39,7 @@ pub(crate) fn name_of(grammar: &Grammar, symbol: Sym) -> &[u8]
 }
 
 /// The left side and the body of a rule; a number that is no rule has the left side 0 and no body.
-pub(crate) fn rule_of(tables: &Tables, number: usize) -> (Sym, &[Sym])
+pub fn rule_of(tables: &Tables, number: usize) -> (Sym, &[Sym])
     ensures left { result.0 ≡ (rule_of tables.now number).left }
     ensures body { result.1.now ≡ (rule_of tables.now number).body }
 {
@@ -54,7 +54,7 @@ pub(crate) fn rule_of(tables: &Tables, number: usize) -> (Sym, &[Sym])
 
 /// The state to which a symbol leads from a state; `None` for a number of no state or no symbol,
 /// and where no item moves over the symbol.
-pub(crate) fn goto(tables: &Tables, state: usize, symbol: Sym) -> Option<usize>
+pub fn goto(tables: &Tables, state: usize, symbol: Sym) -> Option<usize>
     ensures { result ≡ goto_at tables.now state symbol }
 {
     let automaton = tables.automaton();
@@ -66,7 +66,7 @@ pub(crate) fn goto(tables: &Tables, state: usize, symbol: Sym) -> Option<usize>
 }
 
 /// What the cell of a state and a token says; an error for a number of no state or no token.
-pub(crate) fn cell(tables: &Tables, state: usize, token: Sym) -> Action
+pub fn cell(tables: &Tables, state: usize, token: Sym) -> Action
     ensures { result ≡ cell_at tables.now state token }
 {
     let automaton = tables.automaton();

@@ -5,5 +5,5 @@ pub use ymachine::{
     Journal, PlaceChange, PlaceParser, Reversible, SnapshotChange, SnapshotParser, TreeNode,
     TreeView, View, machine,
 };
-pub use ysession::{JudgeFault, Session, Verdict, judge, session};
+pub use ysession::{JudgeFault, Session, Verdict, expected, judge, session, states};
 pub use ytokens::{TokenFault, Tokens, read_tokens};

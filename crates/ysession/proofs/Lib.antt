@@ -15,4 +15,7 @@ pub mod Completeness
 pub mod Exactness
 pub mod LongSentences
 pub mod RunStates
+pub mod Acting
+pub mod Trials
+pub mod StackStates
 pub mod Runs

@@ -8,12 +8,12 @@ use Rattle.ytables.specs.Tables.{TablesValue as Tables}
 use Rattle.ymachine.specs.Machine.{without_last}
 use Rattle.ymachine.specs.Tables.{goto_at, goto_from, walk, state_after}
 use Rattle.ymachine.proofs.Ends.{length-without_last}
-use Rattle.ysession.specs.Judge.{top_of, AreStates}
+use Rattle.ysession.specs.States.{top_of, AreStates}
 
-at_or_below : (n m : ℕ) → n ≤ m + 1 → (n ≤ m) ⊎ (n ≡ m + 1)
+pub at_or_below : (n m : ℕ) → n ≤ m + 1 → (n ≤ m) ⊎ (n ≡ m + 1)
 at_or_below n m h = grind arith
 
-abbrev some : ℕ → Option ℕ
+abbrev pub some : ℕ → Option ℕ
 some n = Some n
 
 module _ (t : Tables) where

@@ -1,15 +1,15 @@
 //! The verdict on a list of tokens, by the steps of a parse without its trees and its past.
 
-ghost use Rattle.std.specs.Prelude.{◌≡◌, ◌<◌, ◌≤◌, false, length, IfOk, OnOk};
-ghost use Rattle.ytables.specs.Tables.{action_at};
+ghost use Rattle.std.specs.Prelude.{◌≡◌, false, IfOk};
 ghost use Rattle.ymachine.specs.Headline.{IsMachineOf};
 ghost use Rattle.ymachine.specs.MachineOver.{machine_over};
 ghost use Rattle.ytokens.specs.Tokens.{Fits, symbols_of};
-ghost use Rattle.ysession.specs.Judge.{Basis, CanReduce, top_of, ahead, reduced};
+ghost use Rattle.ysession.specs.Judge.{ahead};
 ghost use Rattle.ysession.specs.Sentences.{IsAnswered, IsExactOf, IsSoundOf};
 ghost use Rattle.ysession.specs.Verdict.{IsVerdict};
 
-use std::alloc::{AllocFailed, Global};
+use crate::states::act;
+use std::alloc::{AllocError, AllocFailed, Global};
 use thiserror::Error;
 use ylalr::END;
 use ymachine::tables::known;
@@ -18,7 +18,7 @@ use ytables::{Action, Tables};
 use ytokens::tokens::Tokens;
 
 /// The most steps that may stand.
-const MOST_STEPS: usize = 1_000_000;
+pub(crate) const MOST_STEPS: usize = 1_000_000;
 
 /// What the steps of a parse come to, from its first configuration on (Aho, Sethi and Ullman, 4.7,
 /// the LR parsing algorithm). Tables and tokens have one verdict.
@@ -49,12 +49,10 @@ impl<T: Drop> From<AllocFailed<T>> for JudgeFault {
     }
 }
 
-/// This call does nothing. It says what a parse by tables rests on.
-fn basis(tables: &Tables)
-    ensures { Basis tables.now }
-{
-    known(tables);
-    let _states = tables.automaton().states();
+impl From<AllocError> for JudgeFault {
+    fn from(_refused: AllocError) -> JudgeFault {
+        JudgeFault::Memory
+    }
 }
 
 /// The token ahead, or the end.
@@ -64,45 +62,17 @@ fn token_ahead(tokens: &[Sym], taken: usize) -> Sym
     tokens.get(taken).copied().unwrap_or(END)
 }
 
-/// What is done in the state on top at this token.
-fn action_on(tables: &Tables, states: &[usize], token: Sym) -> Action
-    requires some { 0 < length states.now }
-    requires state { top_of states.now < length tables.now.built.states }
-    requires token { token < tables.now.built.grammar.bare.tokens }
-    ensures { result ≡ action_at tables.now (top_of states.now) token }
-{
-    tables.action(states[states.len() - 1], token)
-}
-
-/// The left side of a rule takes the place of its body.
-fn reduce(tables: &Tables, states: &mut Vec<usize>, rule: usize) -> Result<(), JudgeFault>
-    requires { CanReduce tables.now rule states.old.items }
-    ensures { OnOk result (states.new.items ≡ reduced tables.now rule states.old.items) }
-{
-    let rule = tables.automaton().grammar().rule(rule);
-    let below = states.len() - rule.body().len();
-    states.truncate(below);
-    let to = tables.goto(states[below - 1], rule.left()).unwrap_or(0);
-    states.push(to)?;
-    Ok(())
-}
-
 /// What the steps from the first configuration on come to.
 fn verdict_on(alloc: Global, tables: &Tables, tokens: &Tokens) -> Result<Verdict, JudgeFault>
-    requires { Fits tables.now.built.grammar (symbols_of tokens.now) }
     ensures { IfOk result (λ v. IsVerdict (machine_over tables.now) (symbols_of tokens.now) v) }
 {
-    basis(tables);
     let mut states = Vec::new(alloc);
     states.push(0)?;
     let mut taken = 0;
     for steps in 0..MOST_STEPS {
-        match action_on(tables, &states, token_ahead(&tokens.symbols, taken)) {
-            Action::Shift(to) => {
-                states.push(to)?;
-                taken += 1;
-            }
-            Action::Reduce(rule) => reduce(tables, &mut states, rule)?,
+        match act(tables, &mut states, token_ahead(&tokens.symbols, taken))? {
+            Action::Shift(_) => taken += 1,
+            Action::Reduce(_) => {}
             Action::Accept => return Ok(Verdict::Accepted(steps + 1)),
             Action::Error => return Ok(Verdict::Rejected(taken + 1)),
         }
