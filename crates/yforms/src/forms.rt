@@ -235,9 +235,9 @@ fn named<'a>(alloc: Global, name: &'static str, help: &'static str) -> Arg<'a> {
 }
 
 /// An argument as clap has it. An option has a value, which with `!` is required, with dots may be
-/// given again, and with `?` may be left out and given again; without one it is a flag. A name, and the one that help shows where that is
-/// another, are a file, which is required, and with dots several; a letter after a dash has the name
-/// of its value, where it has one.
+/// given again, and with `?` may be left out and given again; without one it is a flag. A name, and
+/// the one that help shows where that is another, are a file, which is required, and with dots
+/// several; a letter after a dash has the name of its value, where it has one.
 fn argument<'a>(alloc: Global, wanted: &'static str) -> Arg<'a> {
     let (spelled, help) = halves(wanted);
     let (front, value) = spelled.split_once(' ').unwrap_or((spelled, ""));
