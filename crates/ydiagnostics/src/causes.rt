@@ -1,5 +1,5 @@
-//! Causes of conflicts, as data: the conflicts of one state between the same rivals that are settled
-//! in one way, with the rivals, with sentences for them, and with what settles them otherwise.
+//! Causes of conflicts, as data: the conflicts of one state with the same rules that lose, with all
+//! their rivals, with sentences for these, and with what settles them otherwise.
 
 use crate::hints::HintSheet;
 use crate::kinds::{named, names_of};
@@ -11,7 +11,7 @@ use ycounterexample::groups::MOST_RIVALS;
 use yexplain::reads::{Made, body_of, grammar_of, next_of};
 use yexplain::text::{ItemText, RuleText};
 use ylalr::Item;
-use yreports::blocks::{Class, Entry, category_of};
+use yreports::blocks::{Block, category_of};
 use ysymbols::let_go;
 
 /// The most nodes of a tree that are listed.
@@ -93,14 +93,14 @@ pub struct CauseSheet {
     /// That sentence by each of two rivals, or a sentence for each rival.
     pub sentences: Vec<SentenceSheet>,
     /// How to choose otherwise.
-    hint: Option<HintSheet>,
+    hints: Vec<HintSheet>,
 }
 
 impl Drop for CauseSheet {
     // A call in each owner, which keeps their proofs short.
     fn drop(self) {
         let_go!(self: CauseSheet {
-            kind, category, kinds, states, tokens, loses, rivals, ambiguous, sentences, hint
+            kind, category, kinds, states, tokens, loses, rivals, ambiguous, sentences, hints
         });
     }
 }
@@ -134,14 +134,19 @@ impl Scene<'_> {
         })
     }
 
-    /// The rivals of a kind: the items that shift, where that is taken, and the rules.
-    fn rivals(self, entry: &Entry) -> Made<Vec<RivalSheet>> {
-        let asked = entry.cell(self.tables, self.shown.lines);
-        let (grammar, kind) = (asked.grammar(), &entry.kind);
+    /// The rivals of a block: the items that shift one of its tokens, where that is taken, and the
+    /// rules.
+    fn rivals(self, block: &Block) -> Made<Vec<RivalSheet>> {
+        let asked = block.first.cell(self.tables, self.shown.lines);
+        let (grammar, kind) = (asked.grammar(), &block.first.kind);
         let mut rivals = Vec::new(self.alloc);
-        let shifts = |item: &&Item| kind.shift && next_of(grammar, **item) == Some(kind.token);
-        for item in asked.items().iter().filter(shifts).take(MOST_RIVALS) {
-            rivals.push(self.rival("shift", true, *item)?)?;
+        for item in asked.items() {
+            let mut entries = block.classes.iter().flat_map(|class| class.entries.iter());
+            let next = next_of(grammar, *item);
+            let shifts = kind.shift && entries.any(|entry| next == Some(entry.kind.token));
+            if shifts && rivals.len() < MOST_RIVALS {
+                rivals.push(self.rival("shift", true, *item)?)?;
+            }
         }
         for rule in kind.rules() {
             let dot = body_of(grammar, *rule).len();
@@ -219,13 +224,19 @@ impl Scene<'_> {
         Ok(sentences)
     }
 
-    /// The cause that a class is, with sentences for its rivals.
-    pub fn cause(self, entry: &Entry, class: &Class, answers: &[Answer]) -> Made<CauseSheet> {
-        let (alloc, kind) = (self.alloc, &entry.kind);
+    /// The cause that a block is, with sentences for its rivals.
+    pub fn cause(self, block: &Block, answers: &[Answer]) -> Made<CauseSheet> {
+        let (alloc, kind, group) = (self.alloc, &block.first.kind, block.first.group);
         let (mut kinds, mut tokens) = (Vec::new(alloc), Vec::new(alloc));
-        for entry in &class.entries {
-            kinds.push(entry.number)?;
-            tokens.push(named(alloc, grammar_of(self.tables), entry.kind.token)?)?;
+        let mut hints = Vec::new(alloc);
+        for class in &block.classes {
+            for entry in &class.entries {
+                kinds.push(entry.number)?;
+                tokens.push(named(alloc, grammar_of(self.tables), entry.kind.token)?)?;
+            }
+            if let Some(hint) = self.hint(class)? {
+                hints.push(hint)?;
+            }
         }
         Ok(CauseSheet {
             kind: if kind.shift {
@@ -235,13 +246,13 @@ impl Scene<'_> {
             },
             category: category_of(kind).name(),
             kinds,
-            states: kind.states(alloc, self.tables, entry.group)?,
+            states: kind.states(alloc, self.tables, group)?,
             tokens,
             loses: Vec::from_slice(alloc, kind.others())?,
-            rivals: self.rivals(entry)?,
+            rivals: self.rivals(block)?,
             ambiguous: answers.iter().any(|answer| answer.twins.is_some()),
             sentences: self.sentences(answers)?,
-            hint: self.hint(entry, class)?,
+            hints,
         })
     }
 }

@@ -7,7 +7,8 @@ use yexplain::reads::Made;
 use yreports::causes::Causes;
 use ysymbols::Grammar;
 
-/// A change that settles conflicts: these tokens get precedence lines, and a rule a name of its own.
+/// A change that settles conflicts: these tokens get precedence lines, and a rule a name of its
+/// own.
 #[derive(Drop, Serialize)]
 struct ChangeSheet {
     tokens: Vec<String>,

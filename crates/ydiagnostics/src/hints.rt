@@ -9,7 +9,7 @@ use yexplain::mends::{Mend, mend_of};
 use yexplain::reads::{Made, grammar_of};
 use yexplain::rivals::Kinds;
 use yexplain::text::Name;
-use yreports::blocks::{Class, Entry};
+use yreports::blocks::Class;
 use ysymbols::{Associativity, Sym, let_go};
 
 /// The words of lines.
@@ -60,8 +60,8 @@ pub struct HintSheet {
     advice: &'static str,
     /// The rule that it is about.
     rule: Option<usize>,
-    /// The token of the conflict, and the one from which the rule has its precedence.
-    token: String,
+    /// The tokens of the conflicts, and the one from which the rule has its precedence.
+    tokens: Vec<String>,
     giver: Option<String>,
     /// The words of lines by which the token is shifted, and those by which the rule is reduced.
     shifts: Vec<&'static str>,
@@ -70,7 +70,7 @@ pub struct HintSheet {
     own: bool,
     /// The places of further kinds that it settles.
     also: Vec<usize>,
-    /// Changes of the text that do it, where they are known.
+    /// Changes of the text that do it for the first token, where they are known.
     edits: Vec<EditSheet>,
 }
 
@@ -78,7 +78,7 @@ impl Drop for HintSheet {
     // A call in each owner, which keeps their proofs short.
     fn drop(self) {
         let_go!(self: HintSheet {
-            advice, rule, token, giver, shifts, reduces, own, also, edits
+            advice, rule, tokens, giver, shifts, reduces, own, also, edits
         });
     }
 }
@@ -190,12 +190,16 @@ impl Scene<'_> {
         }))
     }
 
-    /// How the first conflict of a class is settled otherwise.
-    pub fn hint(self, entry: &Entry, class: &Class) -> Made<Option<HintSheet>> {
-        let Some(hint) = class.settled.hint else {
+    /// How the conflicts of a class are settled otherwise.
+    pub fn hint(self, class: &Class) -> Made<Option<HintSheet>> {
+        let (Some(entry), Some(hint)) = (class.entries.first(), class.settled.hint) else {
             return Ok(None);
         };
         let (alloc, grammar) = (self.alloc, grammar_of(self.tables));
+        let mut tokens = Vec::new(alloc);
+        for entry in &class.entries {
+            tokens.push(named(alloc, grammar, entry.kind.token)?)?;
+        }
         let said = said_of(hint);
         let asked = entry.cell(self.tables, self.shown.lines);
         let mut edits = Vec::new(alloc);
@@ -213,7 +217,7 @@ impl Scene<'_> {
                 Hint::Settle(rule, _) => Some(rule),
                 _ => None,
             },
-            token: named(alloc, grammar, entry.kind.token)?,
+            tokens,
             giver: match said.giver {
                 Some(giver) => Some(named(alloc, grammar, giver)?),
                 None => None,

@@ -1,5 +1,5 @@
-//! Causes of conflicts as they are told: at the first rule that loses, with a note for each sentence,
-//! for each rival at its place, and for what settles them otherwise.
+//! Causes of conflicts as they are told: at the first rule that loses, with a note for each
+//! sentence, for each rival at its place, and for what settles them otherwise.
 
 use crate::causes::{CauseSheet, RivalSheet, SentenceSheet};
 use crate::scene::Scene;
@@ -11,9 +11,9 @@ use ycounterexample::groups::{Conflicts, Group, Kind};
 use yexplain::reads::grammar_of;
 use yexplain::rivals::Rivals;
 use yexplain::text::{Name, Names, RuleText};
-use yfiles::diagnostic::{Diagnostic, Diagnostics, Note};
+use yfiles::diagnostic::{Diagnostic, Diagnostics, Note, Severity};
 use yfiles::place::Spot;
-use yreports::blocks::{Class, Entry, category_of};
+use yreports::blocks::{Block, category_of};
 
 /// The most tokens that are named.
 const MOST_TOKENS: usize = 20;
@@ -142,20 +142,26 @@ impl Scene<'_> {
         Ok(())
     }
 
-    /// A cause with its notes.
+    /// A cause, with its notes where it isn't accepted.
     fn told(
         self,
-        (entry, class): (&Entry, &Class),
+        block: &Block,
         cause: &CauseSheet,
         finding: Option<&Finding>,
     ) -> io::Result<Diagnostic> {
-        let mut one = self.head((&entry.kind, entry.group), &cause.tokens)?;
+        let mut one = self.head((&block.first.kind, block.first.group), &cause.tokens)?;
+        if one.severity == Severity::Note {
+            return Ok(one);
+        }
         self.note_sentences(&mut one, cause, finding)?;
         for rival in &cause.rivals {
             let note = rival_note(self.alloc, rival)?;
             one.notes.push(note).map_err(AllocError::from)?;
         }
-        if let Some(hint) = class.settled.hint {
+        for class in &block.classes {
+            let (Some(entry), Some(hint)) = (class.entries.first(), class.settled.hint) else {
+                continue;
+            };
             let mut text = Vec::new(self.alloc);
             let asked = entry.cell(self.tables, self.shown.lines);
             Rivals::new(asked).put_hint(&mut text, hint)?;
@@ -175,19 +181,14 @@ impl Scene<'_> {
         let (alloc, blocks) = (self.alloc, &self.sought.blocks);
         let mut causes = Vec::new(alloc);
         for (place, block) in blocks.list.iter().enumerate() {
-            for (number, class) in block.classes.iter().enumerate() {
-                let Some(entry) = class.entries.first() else {
-                    continue;
-                };
-                let found = self.sought.of(place).filter(|_| number == 0);
-                let answers: &[Answer] = match found {
-                    Some((_, answers)) => answers,
-                    None => &[],
-                };
-                let cause = self.cause(entry, class, answers)?;
-                told.add(self.told((entry, class), &cause, found.map(|found| found.0))?)?;
-                causes.push(cause).map_err(AllocError::from)?;
-            }
+            let found = self.sought.of(place);
+            let answers: &[Answer] = match found {
+                Some((_, answers)) => answers,
+                None => &[],
+            };
+            let cause = self.cause(block, answers)?;
+            told.add(self.told(block, &cause, found.map(|found| found.0))?)?;
+            causes.push(cause).map_err(AllocError::from)?;
         }
         for (kind, group) in found.groups.iter().skip(blocks.kinds) {
             let name = Name(grammar_of(self.tables), kind.token);

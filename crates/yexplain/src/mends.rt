@@ -30,30 +30,33 @@ fn is_free(grammar: &Grammar, lines: &Lines, token: Sym) -> bool {
     level_of(grammar, token).is_none() && mentions.any(|it| it.symbol == token)
 }
 
+/// The tokens of the lines that an advice on a token asks for, in their order, where they can stand
+/// after all others.
+fn tokens_of(token: Sym, advice: Advice, deed: Deed) -> Option<(Sym, Option<Sym>)> {
+    match (advice, deed) {
+        (Advice::Both { .. }, _) | (Advice::Token(_), Deed::Shift) => Some((token, None)),
+        (Advice::Rule(giver), Deed::Reduce) => Some((giver, None)),
+        (Advice::Lines { words, .. }, Deed::Shift) => Some((words.giver, Some(token))),
+        (Advice::Lines { words, .. }, Deed::Reduce) => Some((token, Some(words.giver))),
+        _ => None,
+    }
+}
+
 /// The lines that a hint on a cell asks for, for its shift or for its rule, where they can stand
 /// after all others, and do that there.
 pub fn mend_of(asked: Question<'_>, hint: Hint, deed: Deed) -> Option<Mend> {
     let Hint::Settle(rule, advice) = hint else {
         return None;
     };
-    let (token, is_shift) = (asked.token, deed == Deed::Shift);
-    let (first, second) = match advice {
-        Advice::Both { .. } => (token, None),
-        Advice::Token(_) if is_shift => (token, None),
-        Advice::Rule(giver) if !is_shift => (giver, None),
-        Advice::Lines { words, .. } if is_shift => (words.giver, Some(token)),
-        Advice::Lines { words, .. } => (token, Some(words.giver)),
-        _ => return None,
-    };
+    let (first, second) = tokens_of(asked.token, advice, deed)?;
     let (grammar, lines) = (asked.grammar(), asked.lines);
     let are_free = is_free(grammar, lines, first)
         && second.is_none_or(|token| is_free(grammar, lines, token));
     let at = lines.mark().filter(|_| are_free)?;
     let rivals = Rivals::new(asked);
-    let action = if is_shift {
-        rivals.shift
-    } else {
-        Action::Reduce(rule)
+    let action = match deed {
+        Deed::Shift => rivals.shift,
+        Deed::Reduce => Action::Reduce(rule),
     };
     for kind in [
         Associativity::Left,

@@ -187,8 +187,8 @@ impl Diagnostics {
         }
     }
 
-    /// Makes errors of all after so many but notes whose category makes a run fail, and says whether
-    /// there are some.
+    /// Makes errors of all after so many but notes whose category makes a run fail, and says
+    /// whether there are some.
     pub fn judge_by(&mut self, before: usize, choice: Choice) -> bool {
         let mut fails = false;
         for place in before..self.all.len() {
