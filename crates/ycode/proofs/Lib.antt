@@ -14,3 +14,4 @@ pub mod SymbolSteps
 pub mod CodeSteps
 pub mod TranslationSteps
 pub mod WholeSteps
+pub mod OneCode

@@ -16,5 +16,6 @@ pub mod ElaborationSteps
 pub mod Once
 pub mod MeaningSteps
 pub mod ReaderSteps
+pub mod OneGrammar
 pub mod TextSteps
 pub mod InnerSteps
