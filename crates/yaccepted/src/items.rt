@@ -39,19 +39,13 @@ impl Hosts {
         Ok(hosts)
     }
 
-    /// The item that stands for another one: that before the action, for the rule of an inner
-    /// action.
-    fn shown(&self, grammar: &Grammar, item: Dotted) -> Dotted {
+    /// Writes an item: that before the action, for the rule of an inner action.
+    fn put<W: Write>(&self, out: &mut W, grammar: &Grammar, item: Dotted) -> io::Result<()> {
         let left = left_of(grammar, item.0);
-        match left.and_then(|left| self.0.get(left).copied().flatten()) {
+        let (rule, dot) = match left.and_then(|left| self.0.get(left).copied().flatten()) {
             Some(host) if is_inner(grammar, item.0) => host,
             _ => item,
-        }
-    }
-
-    /// Writes an item.
-    fn put<W: Write>(&self, out: &mut W, grammar: &Grammar, item: Dotted) -> io::Result<()> {
-        let (rule, dot) = self.shown(grammar, item);
+        };
         let left = Name(grammar, left_of(grammar, rule).unwrap_or(0));
         let body = body_of(grammar, rule);
         write!(out, "{left}:")?;

@@ -82,17 +82,6 @@ fn beside(alloc: Global, conflicts: &Conflicts, others: &Conflicts) -> io::Resul
     Ok(beside)
 }
 
-/// What a list comes to that isn't written anew.
-fn compared(alloc: Global, list: &List, found: &Conflicts) -> io::Result<Listed> {
-    let gone = beside(alloc, &list.accepted, found)?;
-    Ok(Listed {
-        new: beside(alloc, found, &list.accepted)?,
-        accepted: list.accepted.all.len().saturating_sub(gone.len()),
-        gone,
-        is_updated: false,
-    })
-}
-
 /// The list of a path, which may be absent where it is to be written; where it can't be read or is
 /// refused, that is said, and the exit status is the answer.
 fn read_list<F: Files + AllocGlobal>(
@@ -193,7 +182,13 @@ fn judge_list<F: Files + AllocGlobal>(
     (list, found): (&List, &Conflicts),
     told: &mut Diagnostics,
 ) -> io::Result<Result<Listed, u8>> {
-    let mut listed = compared(rt.alloc(), list, found)?;
+    let gone = beside(rt.alloc(), &list.accepted, found)?;
+    let mut listed = Listed {
+        new: beside(rt.alloc(), found, &list.accepted)?,
+        accepted: list.accepted.all.len().saturating_sub(gone.len()),
+        gone,
+        is_updated: false,
+    };
     if !asked.update {
         return Ok(Ok(listed));
     }

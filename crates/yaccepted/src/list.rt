@@ -134,16 +134,6 @@ fn is_item(text: &[u8]) -> bool {
 }
 
 impl Reader {
-    /// Takes a comment.
-    fn take_comment(&mut self, line: &[u8]) -> Result<(), Trouble> {
-        self.comment.extend_from_slice(line)?;
-        self.comment.push(b'\n').map_err(AllocError::from)?;
-        match self.stage {
-            Stage::Taken(_) | Stage::Others => self.keep_comment(),
-            _ => Ok(()),
-        }
-    }
-
     /// Gives the comments to the conflict whose items are read.
     fn keep_comment(&mut self) -> Result<(), Trouble> {
         let comment = mem::replace(&mut self.comment, Vec::new(self.alloc));
@@ -154,16 +144,6 @@ impl Reader {
         front.push(b'\n').map_err(AllocError::from)?;
         front.extend_from_slice(&self.taken)?;
         self.list.keep(self.alloc, &front, &comment)?;
-        Ok(())
-    }
-
-    /// Takes the line with which a list begins.
-    fn take_first(&mut self, number: usize, line: &[u8]) -> Result<(), Trouble> {
-        if line != FIRST {
-            return Err(Trouble::Wrong(number, Why::NoFirst));
-        }
-        self.list.head = mem::replace(&mut self.comment, Vec::new(self.alloc));
-        self.stage = Stage::Between;
         Ok(())
     }
 
@@ -239,9 +219,19 @@ impl Reader {
         } else if line.starts_with(b"##") {
             Ok(())
         } else if line.starts_with(b"#") {
-            self.take_comment(line)
+            self.comment.extend_from_slice(line)?;
+            self.comment.push(b'\n').map_err(AllocError::from)?;
+            match self.stage {
+                Stage::Taken(_) | Stage::Others => self.keep_comment(),
+                _ => Ok(()),
+            }
         } else if self.stage == Stage::Front {
-            self.take_first(number, line)
+            if line != FIRST {
+                return Err(Trouble::Wrong(number, Why::NoFirst));
+            }
+            self.list.head = mem::replace(&mut self.comment, Vec::new(self.alloc));
+            self.stage = Stage::Between;
+            Ok(())
         } else if item.len() < line.len() {
             self.take_item(number, item)
         } else {

@@ -44,16 +44,6 @@ impl Why {
     }
 }
 
-/// Where a line of a text begins.
-fn start_of(source: &[u8], number: usize) -> usize {
-    let before = source
-        .split(|byte| *byte == b'\n')
-        .take(number.saturating_sub(1));
-    before.fold(0, |sum: usize, line| {
-        sum.saturating_add(line.len()).saturating_add(1)
-    })
-}
-
 /// What is wrong with a line of a list of these bytes.
 pub fn wrong_line(
     alloc: Global,
@@ -61,7 +51,12 @@ pub fn wrong_line(
     number: usize,
     why: Why,
 ) -> io::Result<Diagnostic> {
-    let at = start_of(source, number);
+    let before = source
+        .split(|byte| *byte == b'\n')
+        .take(number.saturating_sub(1));
+    let at = before.fold(0, |sum: usize, line| {
+        sum.saturating_add(line.len()).saturating_add(1)
+    });
     let mut one = Diagnostic::at(alloc, Place { path, source, at }, false)?;
     why.say(&mut one)?;
     one.note(alloc, why.mend())?;

@@ -23,16 +23,8 @@ struct Sheet<'a> {
 }
 
 impl<'a> Sheet<'a> {
-    /// Adds a conflict to its block, the last one where it has none.
-    fn place(&mut self, conflict: &'a Conflict) -> Made<()> {
-        let front = conflict.front(self.alloc)?;
-        let block = number_in(&self.fronts, &front);
-        intern(self.alloc, &mut self.fronts, &front)?;
-        self.placed.push(Placed { block, conflict })?;
-        Ok(())
-    }
-
-    /// Adds the first conflicts that are among the others, or those that aren't.
+    /// Adds the first conflicts that are among the others, or those that aren't: each to its block,
+    /// the last one where it has none.
     fn place_all(
         &mut self,
         conflicts: &'a Conflicts,
@@ -41,7 +33,10 @@ impl<'a> Sheet<'a> {
     ) -> Made<()> {
         for conflict in &conflicts.all {
             if others.has(self.alloc, conflict)? == are_among {
-                self.place(conflict)?;
+                let front = conflict.front(self.alloc)?;
+                let block = number_in(&self.fronts, &front);
+                intern(self.alloc, &mut self.fronts, &front)?;
+                self.placed.push(Placed { block, conflict })?;
             }
         }
         Ok(())
@@ -55,21 +50,8 @@ fn put_line<W: Write>(out: &mut W, front: &[u8], text: &[u8]) -> io::Result<()> 
     out.write_all(b"\n")
 }
 
-/// Writes the front of a block: its comments, its token, and the item that is taken.
-fn put_front<W: Write>(
-    alloc: Global,
-    out: &mut W,
-    list: &List,
-    conflict: &Conflict,
-) -> io::Result<()> {
-    let front = conflict.front(alloc)?;
-    out.write_all(b"\n")?;
-    out.write_all(list.comment(&front))?;
-    put_line(out, FRONT, &conflict.token)?;
-    put_line(out, b"  ", &conflict.taken)
-}
-
-/// Writes the blocks of conflicts.
+/// Writes the blocks of conflicts: the front of each is its comments, its token, and the item that
+/// is taken.
 fn put_blocks<W: Write>(
     alloc: Global,
     out: &mut W,
@@ -79,7 +61,11 @@ fn put_blocks<W: Write>(
     let mut block = None;
     for it in placed {
         if block != Some(it.block) {
-            put_front(alloc, out, list, it.conflict)?;
+            let front = it.conflict.front(alloc)?;
+            out.write_all(b"\n")?;
+            out.write_all(list.comment(&front))?;
+            put_line(out, FRONT, &it.conflict.token)?;
+            put_line(out, b"  ", &it.conflict.taken)?;
         }
         block = Some(it.block);
         put_line(out, b"  ", &it.conflict.other)?;

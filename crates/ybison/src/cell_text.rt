@@ -46,14 +46,6 @@ impl<'a> CellText<'a> {
         at_place(alloc, self.source.path, spot, (b"", ""))
     }
 
-    /// What is said of the end that was taken out of a rule.
-    fn of_end(self, alloc: Global, rule: usize) -> io::Result<Diagnostic> {
-        match self.peer.end_of(rule).and_then(|end| self.ends.get(end)) {
-            Some(end) => at_span(alloc, self.source, end.span),
-            None => self.of_rule(alloc, rule),
-        }
-    }
-
     /// Says what bison does.
     fn say_peer(self, one: &mut Diagnostic) -> io::Result<()> {
         match (self.other.left.shift, self.other.left.first) {
@@ -109,7 +101,10 @@ impl<'a> CellText<'a> {
     fn ended(self, alloc: Global, rule: usize, is_refused: bool) -> io::Result<Diagnostic> {
         let state = self.other.state;
         let first = self.other.left.first.unwrap_or(rule);
-        let mut one = self.of_end(alloc, rule)?;
+        let mut one = match self.peer.end_of(rule).and_then(|end| self.ends.get(end)) {
+            Some(end) => at_span(alloc, self.source, end.span)?,
+            None => self.of_rule(alloc, rule)?,
+        };
         let (ended, other) = (self.numbered(rule), self.numbered(first));
         if is_refused {
             write!(

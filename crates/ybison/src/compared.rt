@@ -94,39 +94,32 @@ impl Walk<'_> {
         }
     }
 
-    /// Counts the conflicts that bison leaves in a cell.
-    fn count(&mut self, left: &Left) {
-        let counts = &mut self.found.counts;
-        counts.shift_reduce = counts.shift_reduce.saturating_add(left.shift_reduce());
-        counts.reduce_reduce = counts.reduce_reduce.saturating_add(left.reduce_reduce());
-    }
-
-    /// Whether a conflict of bison in a cell has no counterpart here.
-    fn is_other(&self, state: usize, token: Sym, left: &Left) -> bool {
-        let conflicts = left.shift_reduce().saturating_add(left.reduce_reduce());
-        let is_other_kind = left.ends > 0 && left.reductions > 0;
-        is_other_kind || (conflicts > 0) != conflict_of(self.peer.tables, state, token).is_some()
-    }
-
-    /// Compares a cell.
+    /// Compares a cell: what is done in it, and whether a conflict of bison has a counterpart here.
     fn compare(&mut self, state: usize, token: Sym, left: Left) {
         let action = action_of(self.peer.tables, state, token);
         let other = Other { state, token, left };
         if !does(&left, action) {
             self.found.deed = self.found.deed.or(Some(other));
-        } else if self.is_other(state, token, &left) {
+            return;
+        }
+        let conflicts = left.shift_reduce().saturating_add(left.reduce_reduce());
+        let is_other_kind = left.ends > 0 && left.reductions > 0;
+        let has_one = conflict_of(self.peer.tables, state, token).is_some();
+        if is_other_kind || (conflicts > 0) != has_one {
             self.found.conflict = self.found.conflict.or(Some(other));
             self.found.conflicts = self.found.conflicts.saturating_add(1);
         }
     }
 
-    /// Looks at the cells of a state.
+    /// Looks at the cells of a state, and counts the conflicts that bison leaves in them.
     fn look_at(&mut self, alloc: Global, state: usize) -> Made<()> {
         let ready = ready_of(alloc, self.peer.tables.automaton(), state)?;
         for token in 0..token_count(self.peer.grammar()) {
             let left = self.peer.left_in(state, token, &ready);
             if left.is_filled() {
-                self.count(&left);
+                let counts = &mut self.found.counts;
+                counts.shift_reduce = counts.shift_reduce.saturating_add(left.shift_reduce());
+                counts.reduce_reduce = counts.reduce_reduce.saturating_add(left.reduce_reduce());
                 self.compare(state, token, left);
             }
             if left.shift {

@@ -1,7 +1,7 @@
 //! Grammar files opened.
 
 use std::alloc::Global;
-use yexplain::lines::{Lines, Spot, Spots, spots_of};
+use yexplain::lines::{Lines, Spots, spots_of};
 use yexplain::reads::Made;
 use yfaults::opening::{Opened, Trouble};
 use ygrammar::{Grammar, Mapped, Mark, read_mapped};
@@ -18,35 +18,8 @@ pub struct Origin<'a> {
     pub pieces: &'a Pieces,
 }
 
-impl Origin<'_> {
-    /// Gives lexemes of the text the columns that they have in the file, where it has them.
-    fn place(self, marks: &[Mark<'_>], spots: &mut [Spot]) {
-        let mut counted = Spots::new(self.bytes);
-        for (spot, mark) in spots.iter_mut().zip(marks) {
-            spot.column = match self.pieces.original_place(mark.placed.at) {
-                Some(at) => Some(counted.reach(at).1),
-                None => None,
-            };
-        }
-    }
-}
-
-/// Where the lexemes of a text stand in the file that a person has: that of which it was made, or
-/// the text itself.
-fn places_of(
-    alloc: Global,
-    source: &[u8],
-    origin: Option<Origin<'_>>,
-    marks: &[Mark<'_>],
-) -> Made<Vec<Spot>> {
-    let mut spots = spots_of(alloc, source, marks)?;
-    if let Some(origin) = origin {
-        origin.place(marks, &mut spots);
-    }
-    Ok(spots)
-}
-
-/// Where the rules and symbols of a text stand, likewise.
+/// Where the rules and symbols of a text stand in the file that a person has: that of which it was
+/// made, or the text itself. Where the file has no column for a lexeme, it has none.
 fn lines_of(
     alloc: Global,
     source: &[u8],
@@ -54,17 +27,17 @@ fn lines_of(
     marks: &[Mark<'_>],
     grammar: &Grammar,
 ) -> Made<Lines> {
-    let spots = places_of(alloc, source, origin, marks)?;
-    Lines::new(alloc, marks, &spots, grammar)
-}
-
-/// The tables of a grammar, and where things stand in its file.
-fn tables_over<'a>(alloc: Global, grammar: Grammar, lines: Lines) -> Result<Opened, Trouble<'a>> {
-    let automaton = build(alloc, grammar)?;
-    match resolve(alloc, automaton) {
-        Ok(tables) => Ok(Opened { tables, lines }),
-        Err(_) => Err(Trouble::Memory),
+    let mut spots = spots_of(alloc, source, marks)?;
+    if let Some(origin) = origin {
+        let mut counted = Spots::new(origin.bytes);
+        for (spot, mark) in spots.iter_mut().zip(marks) {
+            spot.column = match origin.pieces.original_place(mark.placed.at) {
+                Some(at) => Some(counted.reach(at).1),
+                None => None,
+            };
+        }
     }
+    Lines::new(alloc, marks, &spots, grammar)
 }
 
 /// The tables of the grammar that the bytes mean, and where things stand in them, or in the file of
@@ -86,8 +59,12 @@ pub fn open_bytes<'a>(
         Ok(grammar) => grammar,
         Err(placed) => return Err(Trouble::of_fault(placed, marks, barren)),
     };
-    match lines_of(alloc, source, origin, &marks, &grammar) {
-        Ok(lines) => tables_over(alloc, grammar, lines),
+    let Ok(lines) = lines_of(alloc, source, origin, &marks, &grammar) else {
+        return Err(Trouble::Memory);
+    };
+    let automaton = build(alloc, grammar)?;
+    match resolve(alloc, automaton) {
+        Ok(tables) => Ok(Opened { tables, lines }),
         Err(_) => Err(Trouble::Memory),
     }
 }

@@ -51,14 +51,6 @@ impl Left {
         self.first = self.first.or(Some(rule));
     }
 
-    /// Leaves a rule that isn't compared with the shift.
-    fn pass(&mut self, candidate: Candidate) {
-        if candidate.standing.class() == Class::Ban {
-            self.passed = self.passed.or(Some(candidate.rule));
-        }
-        self.leave(candidate.rule);
-    }
-
     /// Compares a rule with the shift.
     fn compare(&mut self, candidate: Candidate) {
         let rule = candidate.rule;
@@ -127,7 +119,10 @@ impl<'a> Peer<'a> {
         } else if left.shift && !is_equal {
             left.compare(candidate);
         } else {
-            left.pass(candidate);
+            if is_ban {
+                left.passed = left.passed.or(Some(rule));
+            }
+            left.leave(rule);
         }
     }
 

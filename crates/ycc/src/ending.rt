@@ -3,9 +3,9 @@
 use std::alloc::{AllocError, AllocFailed, AllocGlobal};
 use std::io::{self, Write};
 use yfiles::diagnostic::Diagnostic;
+use yfiles::output::Output;
 use yfiles::place::Place;
 use yfiles::steady::Steady;
-use yfiles::output::Output;
 use yskeleton::Misuse;
 
 /// How the program ends.

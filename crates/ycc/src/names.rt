@@ -64,17 +64,6 @@ fn names_by_parser(alloc: Global, path: &str) -> Made<Names> {
     })
 }
 
-/// The names that begin with a prefix, with the endings of the parser and of its header.
-fn names_by_prefix(alloc: Global, prefix: &str, (parser, header): (&str, &str)) -> Made<Names> {
-    let table = joined(alloc, prefix, TAB)?;
-    Ok(Names {
-        parser: joined(alloc, &table, parser)?,
-        header: joined(alloc, &table, header)?,
-        report: joined(alloc, prefix, ".output")?,
-        table,
-    })
-}
-
 /// What comes before the ending of a grammar file, and the endings of its parser and header, as
 /// bison has them.
 fn named_by(path: &str) -> (&str, (&'static str, &'static str)) {
@@ -105,8 +94,14 @@ fn names_for(
     let (stem, named) = named_by(given.grammar);
     let is_yacc = given.yacc || options.is_yacc || !is_bison;
     let (own, endings) = if is_yacc { ("y", PLAIN) } else { (stem, named) };
-    let prefix = given.files.or(word(options.file_prefix));
-    names_by_prefix(alloc, prefix.unwrap_or(own), endings)
+    let prefix = given.files.or(word(options.file_prefix)).unwrap_or(own);
+    let table = joined(alloc, prefix, TAB)?;
+    Ok(Names {
+        parser: joined(alloc, &table, endings.0)?,
+        header: joined(alloc, &table, endings.1)?,
+        report: joined(alloc, prefix, ".output")?,
+        table,
+    })
 }
 
 /// The names of the files that words and a file ask for.

@@ -105,14 +105,6 @@ impl Drop for CauseSheet {
     }
 }
 
-/// The word for a rival.
-fn action_of(choice: Choice) -> &'static str {
-    match choice {
-        Choice::Shift => "shift",
-        Choice::Reduce(_) => "reduce",
-    }
-}
-
 impl Scene<'_> {
     /// A rival of an item, or of a rule where the dot is at its end.
     fn rival(self, action: &'static str, taken: bool, item: Item) -> Made<RivalSheet> {
@@ -194,7 +186,10 @@ impl Scene<'_> {
     ) -> Made<SentenceSheet> {
         let grammar = grammar_of(self.tables);
         Ok(SentenceSheet {
-            action: action_of(choice),
+            action: match choice {
+                Choice::Shift => "shift",
+                Choice::Reduce(_) => "reduce",
+            },
             rule: choice.rule(),
             tokens: names_of(self.alloc, grammar, &sentence.tokens)?,
             dot: sentence.dot,

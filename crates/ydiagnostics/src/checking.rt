@@ -7,7 +7,6 @@ use crate::messaged::Messaged;
 use std::alloc::{AllocError, Global};
 use std::io::{self, Read, Write};
 use std::rt::Files;
-use yexplain::reads::Made;
 use yfiles::category::Categories;
 use yfiles::diagnostic::{Diagnostics, Severity};
 use yfiles::reading::{Limited, all_bytes};
@@ -44,14 +43,6 @@ pub fn bytes_of<F: Files + AllocGlobal, R: Read>(
     }
 }
 
-/// The bytes again, where there are some.
-fn copy_of(alloc: Global, bytes: &io::Result<Option<Vec<u8>>>) -> Made<Vec<u8>> {
-    match bytes {
-        Ok(Some(bytes)) => Vec::from_slice(alloc, bytes),
-        _ => Ok(Vec::new(alloc)),
-    }
-}
-
 impl Asked<'_> {
     /// What is said of an input, and the exit status where nothing else is said.
     fn take<F: Files + AllocGlobal, R: Read>(
@@ -64,7 +55,10 @@ impl Asked<'_> {
         let (alloc, most) = (rt.alloc(), self.most);
         let file = Limited { path, most };
         let bytes = bytes_of(rt, stdin, file);
-        let source = copy_of(alloc, &bytes)?;
+        let source = match &bytes {
+            Ok(Some(bytes)) => Vec::from_slice(alloc, bytes)?,
+            _ => Vec::new(alloc),
+        };
         let language = &messaged.language;
         let opened = &language.opened;
         let input = match language.input_of(alloc, file, bytes)? {

@@ -7,10 +7,10 @@ use std::io;
 use yexplain::reads::Made;
 use yfaults::opening::word_place;
 use yfiles::diagnostic::Diagnostics;
-use yfiles::place::{Place, Spot};
+use yfiles::place::Place;
 use yinput::language::Input;
 use yinput::spelled::Spoken;
-use yinput::verdict::{Rejection, Verdict};
+use yinput::verdict::Verdict;
 use ysymbols::{Grammar, let_go};
 
 /// What comes of an input.
@@ -36,15 +36,6 @@ impl Drop for InputSheet {
     }
 }
 
-/// The word for a verdict.
-fn word_of(verdict: &Verdict) -> &'static str {
-    match verdict {
-        Verdict::Accepted(_) => "accepted",
-        Verdict::Rejected(_) => "rejected",
-        Verdict::Undecided => "undecided",
-    }
-}
-
 impl InputSheet {
     /// That of an input of which no more is known.
     fn new(alloc: Global, path: &str, verdict: &'static str) -> Made<InputSheet> {
@@ -59,32 +50,27 @@ impl InputSheet {
         })
     }
 
-    /// Notes where it is rejected.
-    fn reject(&mut self, alloc: Global, grammar: &Grammar, rejection: &Rejection) -> Made<()> {
-        let mut names = names_of(alloc, grammar, &[rejection.token])?;
-        self.number = Some(rejection.number);
-        self.token = names.pop();
-        self.expected = names_of(alloc, grammar, &rejection.wanted.can)?;
-        self.unknown = names_of(alloc, grammar, &rejection.wanted.unknown)?;
-        Ok(())
-    }
-
     /// That of a verdict.
     fn of(alloc: Global, grammar: &Grammar, path: &str, verdict: &Verdict) -> Made<InputSheet> {
-        let mut sheet = InputSheet::new(alloc, path, word_of(verdict))?;
+        let word = match verdict {
+            Verdict::Accepted(_) => "accepted",
+            Verdict::Rejected(_) => "rejected",
+            Verdict::Undecided => "undecided",
+        };
+        let mut sheet = InputSheet::new(alloc, path, word)?;
         match verdict {
             Verdict::Accepted(steps) => sheet.steps = Some(*steps),
-            Verdict::Rejected(rejection) => sheet.reject(alloc, grammar, rejection)?,
+            Verdict::Rejected(rejection) => {
+                let mut names = names_of(alloc, grammar, &[rejection.token])?;
+                sheet.number = Some(rejection.number);
+                sheet.token = names.pop();
+                sheet.expected = names_of(alloc, grammar, &rejection.wanted.can)?;
+                sheet.unknown = names_of(alloc, grammar, &rejection.wanted.unknown)?;
+            }
             Verdict::Undecided => {}
         }
         Ok(sheet)
     }
-}
-
-/// The place of a token in its tokens file.
-fn spot_of(path: &str, source: &[u8], number: usize) -> Spot {
-    let at = word_place(source, number).unwrap_or(source.len());
-    Place { path, source, at }.spot()
 }
 
 /// What is said of an input of these bytes, with a message for its error, where there is one, and
@@ -102,7 +88,8 @@ pub fn answer_of(
         return Ok((sheet, 0));
     };
     if let (Verdict::Rejected(rejection), None) = (verdict, &input.text) {
-        one.spot = Some(spot_of(path, source, rejection.number));
+        let at = word_place(source, rejection.number).unwrap_or(source.len());
+        one.spot = Some(Place { path, source, at }.spot());
     }
     told.add(one)?;
     Ok((sheet, 1))

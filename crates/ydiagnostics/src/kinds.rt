@@ -2,7 +2,7 @@
 
 use serde::Serialize;
 use std::alloc::Global;
-use ycounterexample::finding::{Allows, Finding, List};
+use ycounterexample::finding::{Allows, Finding};
 use ycounterexample::groups::{Conflicts, Group, Kind};
 use ycounterexample::trial::Trial;
 use yexplain::lines::Lines;
@@ -100,53 +100,39 @@ pub fn names_of(alloc: Global, grammar: &Grammar, symbols: &[Sym]) -> Made<Vec<S
     Ok(names)
 }
 
-/// What a parse comes to.
-fn word_of(trial: Trial) -> &'static str {
-    match trial {
-        Trial::Reached(_) => "reached",
-        Trial::Recovered(_) => "recovered",
-        Trial::Missed => "missed",
-        Trial::Late(_) => "late",
-        Trial::HasError => "untried",
-    }
-}
-
-/// A list.
-fn list_sheet(alloc: Global, grammar: &Grammar, list: &List) -> Made<ListSheet> {
-    Ok(ListSheet {
-        rules: Vec::from_slice(alloc, &list.rules)?,
-        both: list.allows == Allows::Both,
-        tokens: names_of(alloc, grammar, &list.tokens)?,
-        parse: word_of(list.trial),
-    })
-}
-
-/// The lists that were found.
+/// The lists that were found, each with what a parse comes to.
 fn list_sheets(alloc: Global, grammar: &Grammar, finding: &Finding) -> Made<Vec<ListSheet>> {
     let mut lists = Vec::new(alloc);
     for list in &finding.lists {
-        lists.push(list_sheet(alloc, grammar, list)?)?;
+        let parse = match list.trial {
+            Trial::Reached(_) => "reached",
+            Trial::Recovered(_) => "recovered",
+            Trial::Missed => "missed",
+            Trial::Late(_) => "late",
+            Trial::HasError => "untried",
+        };
+        lists.push(ListSheet {
+            rules: Vec::from_slice(alloc, &list.rules)?,
+            both: list.allows == Allows::Both,
+            tokens: names_of(alloc, grammar, &list.tokens)?,
+            parse,
+        })?;
     }
     Ok(lists)
 }
 
 impl Shown<'_> {
-    /// A rule.
-    fn rule_sheet(self, alloc: Global, grammar: &Grammar, rule: usize) -> Made<RuleSheet> {
-        let (spot, text) = (self.lines.spot(rule), RuleText(grammar, rule));
-        Ok(RuleSheet {
-            rule,
-            line: spot.map(|spot| spot.line),
-            column: spot.and_then(|spot| spot.column),
-            text: format!(in alloc; "{text}")?,
-        })
-    }
-
     /// The rules of a kind.
     fn rule_sheets(self, alloc: Global, grammar: &Grammar, kind: &Kind) -> Made<Vec<RuleSheet>> {
         let mut rules = Vec::new(alloc);
         for rule in kind.rules() {
-            rules.push(self.rule_sheet(alloc, grammar, *rule)?)?;
+            let (spot, text) = (self.lines.spot(*rule), RuleText(grammar, *rule));
+            rules.push(RuleSheet {
+                rule: *rule,
+                line: spot.map(|spot| spot.line),
+                column: spot.and_then(|spot| spot.column),
+                text: format!(in alloc; "{text}")?,
+            })?;
         }
         Ok(rules)
     }

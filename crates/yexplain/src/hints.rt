@@ -118,7 +118,14 @@ impl Rivals<'_> {
             Advice::General => self.put_general(out),
             Advice::Both { reduces, shifts } => self.put_both(out, rule, (reduces, shifts)),
             Advice::Token(words) => self.put_token_line(out, rule, words),
-            Advice::Rule(giver) => self.put_rule_line(out, rule, giver),
+            Advice::Rule(giver) => {
+                let (name, giver) = (self.name(), self.named(giver));
+                writeln!(
+                    out,
+                    "  To choose, name {giver} on a line of %left, %right or %nonassoc: earlier \
+                     than {name} shifts {name}, later reduces by rule {rule}."
+                )
+            }
             Advice::Lines { words, own } => self.put_lines(out, rule, (words, own)),
             Advice::Own => self.put_own(out, rule),
         }
@@ -160,17 +167,6 @@ impl Rivals<'_> {
         writeln!(
             out,
             "  To reduce by rule {rule}, name {name} on a line of {reduces} earlier than {other}."
-        )
-    }
-
-    /// Writes how a line for the token that would give the rule its precedence chooses, where the
-    /// token of the cell has one.
-    fn put_rule_line<W: Write>(&self, out: &mut W, rule: usize, giver: Sym) -> io::Result<()> {
-        let (name, giver) = (self.name(), self.named(giver));
-        writeln!(
-            out,
-            "  To choose, name {giver} on a line of %left, %right or %nonassoc: earlier than \
-             {name} shifts {name}, later reduces by rule {rule}."
         )
     }
 

@@ -69,7 +69,10 @@ impl<'a> Question<'a> {
                 None => writeln!(out, "  Nothing else can be done here."),
             },
             _ => {
-                self.put_rivals(out, shifts)?;
+                if shifts {
+                    self.put_shifts(out)?;
+                }
+                self.put_rules(out)?;
                 self.put_grounds(out)
             }
         }
@@ -127,14 +130,6 @@ impl<'a> Question<'a> {
         }
     }
 
-    /// Writes the candidates.
-    fn put_rivals<W: Write>(self, out: &mut W, shifts: bool) -> io::Result<()> {
-        if shifts {
-            self.put_shifts(out)?;
-        }
-        self.put_rules(out)
-    }
-
     /// Writes the items that could shift.
     fn put_shifts<W: Write>(self, out: &mut W) -> io::Result<()> {
         let (grammar, token) = (self.grammar(), self.token);
@@ -169,7 +164,14 @@ impl<'a> Question<'a> {
         match candidate.standing {
             Standing::Higher => writeln!(out, "  Rule {rule} binds tighter than {name}."),
             Standing::Lower => writeln!(out, "  {name} binds tighter than rule {rule}."),
-            Standing::Level(kind) => self.put_level(out, rule, kind),
+            Standing::Level(kind) => {
+                write!(out, "  Rule {rule} and {name} have one level: ")?;
+                match kind {
+                    Associativity::Left => writeln!(out, "%left reduces."),
+                    Associativity::Right => writeln!(out, "%right shifts."),
+                    Associativity::Nonassoc => writeln!(out, "%nonassoc allows neither."),
+                }
+            }
             Standing::NoToken => writeln!(out, "  Rule {rule} has a precedence, {name} has none."),
             Standing::NoRule => {
                 writeln!(out, "  {name} has a precedence, rule {rule} has none.")?;
@@ -178,17 +180,6 @@ impl<'a> Question<'a> {
             Standing::Neither => {
                 writeln!(out, "  Neither rule {rule} nor {name} has a precedence.")
             }
-        }
-    }
-
-    /// Writes that a rule has the level of the token.
-    fn put_level<W: Write>(self, out: &mut W, rule: usize, kind: Associativity) -> io::Result<()> {
-        let name = self.name();
-        write!(out, "  Rule {rule} and {name} have one level: ")?;
-        match kind {
-            Associativity::Left => writeln!(out, "%left reduces."),
-            Associativity::Right => writeln!(out, "%right shifts."),
-            Associativity::Nonassoc => writeln!(out, "%nonassoc allows neither."),
         }
     }
 

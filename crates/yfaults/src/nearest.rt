@@ -26,17 +26,6 @@ fn unquoted(name: &[u8]) -> &[u8] {
     }
 }
 
-/// How many edits lead from one name to another; 0 where they differ only in case or quotes.
-fn edits_between(alloc: Global, wanted: &[u8], name: &[u8]) -> Made<usize> {
-    if unquoted(wanted).eq_ignore_ascii_case(unquoted(name)) {
-        return Ok(0);
-    }
-    match (str::from_utf8(wanted), str::from_utf8(name)) {
-        (Ok(wanted), Ok(name)) => osa_distance(alloc, wanted, name),
-        _ => Ok(LONGEST),
-    }
-}
-
 impl<'a> Search<'a> {
     /// A search for a name at most one edit away for each three bytes of the wanted name, or for
     /// two bytes.
@@ -54,7 +43,15 @@ impl<'a> Search<'a> {
         if self.wanted.len() > LONGEST || name.len() > LONGEST {
             return Ok(());
         }
-        let edits = edits_between(alloc, self.wanted, name)?;
+        // those that differ only in case or quotes are no edit apart
+        let edits = if unquoted(self.wanted).eq_ignore_ascii_case(unquoted(name)) {
+            0
+        } else {
+            match (str::from_utf8(self.wanted), str::from_utf8(name)) {
+                (Ok(wanted), Ok(name)) => osa_distance(alloc, wanted, name)?,
+                _ => LONGEST,
+            }
+        };
         if edits < self.edits {
             self.found = Some(name);
             self.edits = edits;

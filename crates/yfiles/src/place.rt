@@ -88,15 +88,6 @@ fn shown_char(c: char) -> char {
     if c == '\t' || !c.is_control() { c } else { ' ' }
 }
 
-/// A byte as it is shown, where its line isn't UTF-8.
-fn shown_byte(byte: u8) -> char {
-    if byte < 128 {
-        shown_char(char::from(byte))
-    } else {
-        '?'
-    }
-}
-
 /// A part of a line as it is shown, and whether it is blank: then its columns alone are.
 #[derive(Clone, Copy)]
 struct Text<'a>(&'a [u8], bool);
@@ -116,7 +107,12 @@ impl Text<'_> {
     /// Writes a text that isn't UTF-8.
     fn put_bytes<W: fmt::Write>(&self, f: &mut fmt::Formatter<W>) -> fmt::Result {
         for byte in self.0 {
-            self.put(f, shown_byte(*byte))?;
+            let shown = if *byte < 128 {
+                shown_char(char::from(*byte))
+            } else {
+                '?'
+            };
+            self.put(f, shown)?;
         }
         Ok(())
     }

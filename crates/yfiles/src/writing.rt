@@ -1,7 +1,6 @@
 //! Texts written to files so that none is left cut off: a text goes to a new file beside its own,
 //! which gets its name once it is complete.
 
-use std::alloc::Global;
 use std::fs::{self, File, OpenFile, OpenOptions, Permissions};
 use std::io::{self, ErrorKind, Write};
 use std::os::unix::fs::MetadataExt;
@@ -10,20 +9,14 @@ use std::rt::Files;
 /// How many names are tried for the file beside another.
 const MOST_NAMES: usize = 100;
 
-/// A name in the folder of a path: the folder's other files need not be looked at, since a file is
-/// made only where none has the name.
-fn path_beside(alloc: Global, path: &str, number: usize) -> io::Result<String> {
-    let beside = match path.rsplit_once('/') {
-        Some((folder, _)) => format!(in alloc; "{folder}/.ydebug-{number}")?,
-        None => format!(in alloc; ".ydebug-{number}")?,
-    };
-    Ok(beside)
-}
-
-/// Makes a file in the folder of a path, and gives its own path.
+/// Makes a file in the folder of a path, and gives its own path. The folder's other files need not
+/// be looked at, since a file is made only where none has the name.
 fn make_beside<F: Files + AllocGlobal>(rt: &F, path: &str) -> io::Result<(F::File, String)> {
     for number in 0..MOST_NAMES {
-        let beside = path_beside(rt.alloc(), path, number)?;
+        let beside = match path.rsplit_once('/') {
+            Some((folder, _)) => format!(in rt.alloc(); "{folder}/.ydebug-{number}")?,
+            None => format!(in rt.alloc(); ".ydebug-{number}")?,
+        };
         match File::create_new(rt, &beside) {
             Ok(device) => return Ok((device, beside)),
             Err(error) if error.kind() == ErrorKind::AlreadyExists => {}

@@ -21,21 +21,17 @@ fn quoted_length(bytes: &[u8], quote: u8) -> Result<usize, Flaw> {
     Err(Flaw::Unfinished)
 }
 
-/// A quote that begins no literal of `yacc`: one byte, or several characters without an escape.
-fn odd_quote(bytes: &[u8]) -> Result<(Kind, usize), Flaw> {
+/// What a single quote begins: a literal of `yacc`, or one byte, or several characters without an
+/// escape.
+pub fn quote_at(bytes: &[u8]) -> Result<(Kind, usize), Flaw> {
+    if let Some((_, rest)) = literal_at(bytes) {
+        return Ok((Kind::Literal, bytes.len().saturating_sub(rest.len())));
+    }
     let length = quoted_length(bytes, b'\'')?;
     match bytes.get(1..length.saturating_sub(1)).unwrap_or(&[]) {
         [_] => Ok((Kind::ByteLiteral, length)),
         [] | [b'\\', ..] => Err(Flaw::BadLiteral),
         _ => Ok((Kind::Text, length)),
-    }
-}
-
-/// What a single quote begins.
-pub fn quote_at(bytes: &[u8]) -> Result<(Kind, usize), Flaw> {
-    match literal_at(bytes) {
-        Some((_, rest)) => Ok((Kind::Literal, bytes.len().saturating_sub(rest.len()))),
-        None => odd_quote(bytes),
     }
 }
 

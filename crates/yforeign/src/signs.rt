@@ -32,20 +32,16 @@ fn shared_at(bytes: &[u8], piece: Piece) -> Result<(Piece, usize), Flaw> {
     }
 }
 
-/// Whether these are the digits of a number.
-fn is_number(digits: &[u8]) -> bool {
-    match digits {
-        [b'0', b'x' | b'X', hexadecimal @ ..] => {
-            !hexadecimal.is_empty() && hexadecimal.iter().all(|b| b.is_ascii_hexdigit())
-        }
-        _ => digits.iter().all(|b| is_digit(*b)),
-    }
-}
-
 /// The number that a digit begins.
 fn number_at(bytes: &[u8]) -> Result<(Piece, usize), Flaw> {
     let length = word_length(bytes);
-    if is_number(bytes.get(..length).unwrap_or(bytes)) {
+    let is_number = match bytes.get(..length).unwrap_or(bytes) {
+        [b'0', b'x' | b'X', hexadecimal @ ..] => {
+            !hexadecimal.is_empty() && hexadecimal.iter().all(|b| b.is_ascii_hexdigit())
+        }
+        digits => digits.iter().all(|b| is_digit(*b)),
+    };
+    if is_number {
         Ok((Piece::Lexeme(Kind::Number), length))
     } else {
         Err(Flaw::BadNumber)

@@ -133,25 +133,17 @@ impl Survey {
                 self.start = group.lexemes.get(1).copied();
                 Ok(())
             }
-            Head::Left => self.take_rule(alloc, source, group.lexemes),
+            Head::Left => {
+                let Some((left, body)) = group.lexemes.split_first() else {
+                    return Ok(());
+                };
+                self.first = self.first.or(Some(*left));
+                intern(alloc, &mut self.lefts, left.text(source))?;
+                intern_names(alloc, &mut self.used, source, body)
+            }
             Head::Bar => intern_names(alloc, &mut self.used, source, group.lexemes),
             _ => Ok(()),
         }
-    }
-
-    /// Takes in a rule from its left side.
-    fn take_rule(
-        &mut self,
-        alloc: Global,
-        source: &[u8],
-        lexemes: &[Lexeme],
-    ) -> Result<(), AllocError> {
-        let Some((left, body)) = lexemes.split_first() else {
-            return Ok(());
-        };
-        self.first = self.first.or(Some(*left));
-        intern(alloc, &mut self.lefts, left.text(source))?;
-        intern_names(alloc, &mut self.used, source, body)
     }
 
     /// Takes in a list of tokens.

@@ -44,15 +44,6 @@ fn is_space(b: u8) -> bool {
     b == b' ' || b == b'\t'
 }
 
-/// What follows the spaces at the front.
-fn after_spaces(bytes: &[u8]) -> &[u8] {
-    let spaces = bytes
-        .iter()
-        .position(|b| !is_space(*b))
-        .unwrap_or(bytes.len());
-    bytes.get(spaces..).unwrap_or(&[])
-}
-
 impl<'a> Page<'a> {
     /// The bytes of the file from one place to another.
     fn part(&self, from: usize, to: usize) -> &'a [u8] {
@@ -74,8 +65,9 @@ impl<'a> Page<'a> {
     fn copy_to(&mut self, to: usize) {
         let from = self.at;
         let part = self.part(from, to);
+        let front = part.iter().position(|b| !is_space(*b));
         let kept = if self.passing {
-            after_spaces(part)
+            part.get(front.unwrap_or(part.len())..).unwrap_or(&[])
         } else {
             part
         };

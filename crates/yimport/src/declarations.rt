@@ -7,15 +7,6 @@ use yforeign::directive::{Directive, is_word};
 use yforeign::lexeme::{Kind, Lexeme};
 use yforeign::numbers::number_of;
 
-/// Whether the value of a variable is `lalr`, also between quotes or braces.
-fn is_lalr(value: &[u8]) -> bool {
-    let inner = match value {
-        [b'"', inner @ .., b'"'] | [b'{', inner @ .., b'}'] => inner,
-        _ => value,
-    };
-    inner == b"lalr".as_slice()
-}
-
 impl Work<'_> {
     /// What a file expects of its conflicts, where it says a number.
     fn expected(&mut self, word: &Lexeme, rest: &[Lexeme]) -> Option<Expected> {
@@ -31,12 +22,22 @@ impl Work<'_> {
         }
     }
 
-    /// Why a definition is taken out.
+    /// Why a definition is taken out: tables are asked for where `lr.type` isn't `lalr`, also
+    /// between quotes or braces.
     fn definition_reason(&self, rest: &[Lexeme]) -> Reason {
         match rest {
-            [name, value, ..]
-                if is_word(name.text(self.source), "lr.type")
-                    && !is_lalr(value.text(self.source)) => { Reason::TablesAsked }
+            [name, value, ..] if is_word(name.text(self.source), "lr.type") => {
+                let value = value.text(self.source);
+                let inner = match value {
+                    [b'"', inner @ .., b'"'] | [b'{', inner @ .., b'}'] => inner,
+                    _ => value,
+                };
+                if inner == b"lalr".as_slice() {
+                    Reason::ForItsParser
+                } else {
+                    Reason::TablesAsked
+                }
+            }
             _ => Reason::ForItsParser,
         }
     }

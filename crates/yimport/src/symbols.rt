@@ -125,19 +125,9 @@ impl<'a> Work<'a> {
         }
     }
 
-    /// Notes the name that another one without dashes became, if no other name is spelled or was
-    /// renamed so.
-    fn rename(&mut self, name: Vec<u8>, lexeme: &Lexeme) {
-        let (source, before) = (self.source, self.renamed.get(&name));
-        let is_other = before.map_or(false, |it| it.text(source) != lexeme.text(source));
-        if is_other || is_among(&self.survey.names, &name) {
-            self.edits.refuse(Refusal::NameTaken, lexeme);
-        } else if self.renamed.insert(name, *lexeme).is_err() {
-            self.edits.trouble.remember(Trouble::Memory);
-        }
-    }
-
     /// Writes a symbol that is no string, where its spelling is another one, and gives the reason.
+    /// The name that one without dashes became is noted, if no other name is spelled or was renamed
+    /// so.
     fn spell_plain(&mut self, lexeme: &Lexeme) -> Option<Reason> {
         let (name, reason) = match other_name(self.alloc, self.source, lexeme) {
             Ok(other) => other?,
@@ -148,7 +138,13 @@ impl<'a> Work<'a> {
         };
         self.edits.write(&name);
         if matches!(reason, Reason::Dash) {
-            self.rename(name, lexeme);
+            let (source, before) = (self.source, self.renamed.get(&name));
+            let is_other = before.map_or(false, |it| it.text(source) != lexeme.text(source));
+            if is_other || is_among(&self.survey.names, &name) {
+                self.edits.refuse(Refusal::NameTaken, lexeme);
+            } else if self.renamed.insert(name, *lexeme).is_err() {
+                self.edits.trouble.remember(Trouble::Memory);
+            }
         }
         Some(reason)
     }

@@ -23,20 +23,6 @@ pub struct Folder<'a, F> {
     pub failed: Option<String>,
 }
 
-/// Writes a line with tokens after a space each, and one more where there is one.
-fn put_tokens<W: Write>(
-    out: &mut W,
-    grammar: &Grammar,
-    tokens: &[Sym],
-    last: Option<Sym>,
-) -> io::Result<()> {
-    let names = Names(grammar, tokens);
-    match last.map(|last| Name(grammar, last)) {
-        Some(name) => writeln!(out, "{names} {name}"),
-        None => writeln!(out, "{names}"),
-    }
-}
-
 /// Whether something was written; only no memory stays an error.
 fn is_written(written: io::Result<()>) -> io::Result<bool> {
     match written {
@@ -234,7 +220,11 @@ impl<F: Files + AllocGlobal + Clone + Drop> Folder<'_, F> {
         last: Option<Sym>,
     ) -> io::Result<Option<String>> {
         let mut text = Vec::new(self.rt.alloc());
-        put_tokens(&mut text, grammar, tokens, last)?;
+        let names = Names(grammar, tokens);
+        match last.map(|last| Name(grammar, last)) {
+            Some(name) => writeln!(text, "{names} {name}")?,
+            None => writeln!(text, "{names}")?,
+        }
         self.store_text(numbers, text.strip_prefix(b" ").unwrap_or(&text))
     }
 

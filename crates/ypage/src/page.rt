@@ -1,6 +1,6 @@
 //! `ydebug page`: the page of a parse, written to a file or to standard output.
 
-use crate::cards::{Cards, cards_by};
+use crate::cards::cards_by;
 use crate::data::Shown;
 use crate::frame::{BODY, END, FRONT};
 use crate::input::Input;
@@ -11,7 +11,6 @@ use std::alloc::Global;
 use std::io::{self, Write};
 use std::rt::Files;
 use yexplain::reads::Made;
-use yfaults::opening::Opened;
 use yfiles::same::refused_outputs;
 use yfiles::writing::put_output;
 use yinput::Parse;
@@ -46,16 +45,6 @@ fn page_of(alloc: Global, json: &[u8]) -> Made<Vec<u8>> {
     Ok(page)
 }
 
-/// The cards of a grammar where they are wanted, and the grammar again.
-fn cards_of(alloc: Global, opened: Opened, wanted: bool) -> io::Result<(Opened, Option<Cards>)> {
-    if wanted {
-        let (opened, cards) = cards_by(alloc, opened)?;
-        Ok((opened, Some(cards)))
-    } else {
-        Ok((opened, None))
-    }
-}
-
 /// Writes the page of the steps that a parse has made, and gives the exit status.
 fn put_steps<F: Files + AllocGlobal, W: Write, E: Write>(
     source: &Source<'_, F>,
@@ -67,7 +56,13 @@ fn put_steps<F: Files + AllocGlobal, W: Write, E: Write>(
 ) -> io::Result<u8> {
     let alloc = source.rt.alloc();
     let input = Input::new(alloc, &parse, &trail.record)?;
-    let (opened, cards) = cards_of(alloc, parse.into_opened(), asked.conflicts)?;
+    let opened = parse.into_opened();
+    let (opened, cards) = if asked.conflicts {
+        let (opened, cards) = cards_by(alloc, opened)?;
+        (opened, Some(cards))
+    } else {
+        (opened, None)
+    };
     let shown = Shown {
         files: (source.files.grammar.path, source.input.path),
         opened: &opened,

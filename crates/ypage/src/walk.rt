@@ -64,16 +64,6 @@ fn step(parse: &mut Parse) -> io::Result<Option<StepKind>> {
     }
 }
 
-/// Goes on to a position, or to the end where that comes before it.
-fn skip(parse: &mut Parse, position: usize) -> io::Result<()> {
-    for _ in 0..position {
-        if step(parse)?.is_none() {
-            break;
-        }
-    }
-    Ok(())
-}
-
 impl Walk<'_> {
     /// Notes the cell that says what is done next.
     fn note_cell(&mut self) -> Made<()> {
@@ -125,7 +115,11 @@ fn walk_on(alloc: Global, parse: &mut Parse, most: usize) -> io::Result<Walked> 
 
 /// Makes the steps of a part, from the start of a parse on.
 pub fn walk_part(alloc: Global, parse: &mut Parse, part: Part) -> io::Result<Walked> {
-    skip(parse, part.from)?;
+    for _ in 0..part.from {
+        if step(parse)?.is_none() {
+            break;
+        }
+    }
     let position = parse.session().position();
     if position < part.from {
         return Ok(Walked::Short(position));

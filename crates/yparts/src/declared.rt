@@ -174,17 +174,6 @@ impl<'a> Gather<'a, '_> {
         }
     }
 
-    /// Refuses a version that is later than the one.
-    fn take_version(&self, rest: &[Lexeme]) -> Result<(), Trouble> {
-        let (Some(version), Some(lexeme)) = (self.string(rest), rest.first()) else {
-            return Ok(());
-        };
-        match required(version) {
-            Ok(()) => Ok(()),
-            Err(refusal) => Err(Trouble::Refused(refusal, lexeme.span.from)),
-        }
-    }
-
     /// Refuses a language or a skeleton that isn't the one.
     fn only(&self, rest: &[Lexeme], wanted: &str, refusal: Refusal) -> Result<(), Trouble> {
         match (self.string(rest), rest.first()) {
@@ -235,7 +224,13 @@ impl<'a> Gather<'a, '_> {
             Word::Define => self.take_define(rest)?,
             Word::Language => self.only(rest, "c", Refusal::Language)?,
             Word::Skeleton => self.only(rest, "yacc.c", Refusal::Skeleton)?,
-            Word::Require => self.take_version(rest)?,
+            Word::Require => {
+                if let (Some(version), Some(lexeme)) = (self.string(rest), rest.first()) {
+                    if let Err(refusal) = required(version) {
+                        return Err(Trouble::Refused(refusal, lexeme.span.from));
+                    }
+                }
+            }
             word => self.take_option(word, rest),
         }
         Ok(())

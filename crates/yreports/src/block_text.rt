@@ -72,24 +72,6 @@ impl BlockText<'_> {
         self.put_tokens(page, entries);
     }
 
-    /// Writes on which further tokens the same was said as on the first one of a class.
-    fn put_same<W: Write>(self, page: &mut Page<W>, class: &Class) {
-        let rest = class.entries.get(1..).unwrap_or(&[]);
-        if !rest.is_empty() {
-            self.put_others(page, rest, ("  The same on ", ", "));
-        }
-    }
-
-    /// Writes a further class: its tokens, and what is said of the first of them.
-    fn put_class<W: Write>(self, page: &mut Page<W>, class: &Class) {
-        let words = ("  Also on ", ", ");
-        self.put_others(page, &class.entries, words);
-        if let Some(entry) = class.entries.first() {
-            let _ = entry.cell(self.tables, self.lines).put_grounds(page);
-        }
-        put_also(page, class);
-    }
-
     /// Writes the first conflict of a block, why it is settled so, and on which tokens it is the
     /// same.
     pub fn put<W: Write>(self, page: &mut Page<W>, block: &Block) {
@@ -101,7 +83,10 @@ impl BlockText<'_> {
         let _ = explain(page, asked);
         if let Some(class) = block.classes.first() {
             put_also(page, class);
-            self.put_same(page, class);
+            let rest = class.entries.get(1..).unwrap_or(&[]);
+            if !rest.is_empty() {
+                self.put_others(page, rest, ("  The same on ", ", "));
+            }
         }
         put_states(page, entry.group);
     }
@@ -109,7 +94,11 @@ impl BlockText<'_> {
     /// Writes what is said on the tokens of a block on which it is otherwise than on the first one.
     pub fn put_further<W: Write>(self, page: &mut Page<W>, block: &Block) {
         for class in block.classes.get(1..).unwrap_or(&[]) {
-            self.put_class(page, class);
+            self.put_others(page, &class.entries, ("  Also on ", ", "));
+            if let Some(entry) = class.entries.first() {
+                let _ = entry.cell(self.tables, self.lines).put_grounds(page);
+            }
+            put_also(page, class);
         }
     }
 }

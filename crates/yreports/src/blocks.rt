@@ -119,12 +119,6 @@ impl Blocks {
             None => Ok(()),
         }
     }
-
-    /// Whether a conflict begins a state for which there is no room.
-    fn is_full(&self, entry: &Entry) -> bool {
-        let last = self.list.last();
-        self.list.len() >= MOST_BLOCKS && !last.is_some_and(|block| block.first.is_beside(entry))
-    }
 }
 
 /// The category of a kind of conflict.
@@ -161,7 +155,9 @@ pub fn blocks_of(alloc: Global, tables: &Tables, lines: &Lines, found: &Conflict
             kind: *kind,
             group: *group,
         };
-        if blocks.is_full(&entry) {
+        let last = blocks.list.last();
+        let is_begun = last.is_some_and(|block| block.first.is_beside(&entry));
+        if blocks.list.len() >= MOST_BLOCKS && !is_begun {
             break;
         }
         blocks.add(alloc, entry, entry.cell(tables, lines).settled())?;

@@ -188,19 +188,13 @@ impl Seeker<'_> {
         }
     }
 
-    /// How many conflicts are left with what is marked and this change.
-    fn left_with(&mut self, change: &Change) -> usize {
-        self.mark(change, true);
-        let left = counted(self.grammar, self.lines, &self.marks, self.cells);
-        self.mark(change, false);
-        left
-    }
-
     /// The change that leaves the fewest conflicts, and how many; the first of several.
     fn best(&mut self, changes: &[Change]) -> Option<(usize, usize)> {
         let mut best: Option<(usize, usize)> = None;
         for (place, change) in changes.iter().enumerate() {
-            let left = self.left_with(change);
+            self.mark(change, true);
+            let left = counted(self.grammar, self.lines, &self.marks, self.cells);
+            self.mark(change, false);
             if best.is_none_or(|(_, least)| left < least) {
                 best = Some((place, left));
             }

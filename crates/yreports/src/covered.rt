@@ -26,14 +26,6 @@ pub struct Covered {
     pub settles: usize,
 }
 
-/// The nonterminal that a rule has alone in its body.
-fn link_of(grammar: &Grammar, rule: usize) -> Option<Sym> {
-    match body_of(grammar, rule) {
-        [only] if *only < grammar.symbols() && !grammar.is_token(*only) => Some(*only),
-        _ => None,
-    }
-}
-
 /// The rules of one symbol that lead from a nonterminal to others without a rule: for each the last
 /// one.
 fn links_from(
@@ -45,7 +37,11 @@ fn links_from(
     let mut reached = vec![in alloc; None; grammar.symbols()]?;
     for _ in 0..MOST_LINKS {
         for rule in 1..grammar.rules() {
-            let (Some(left), Some(to)) = (left_of(grammar, rule), link_of(grammar, rule)) else {
+            let to = match body_of(grammar, rule) {
+                [only] if *only < grammar.symbols() && !grammar.is_token(*only) => *only,
+                _ => continue,
+            };
+            let Some(left) = left_of(grammar, rule) else {
                 continue;
             };
             let is_reached = left == from || is_some(&reached, left);

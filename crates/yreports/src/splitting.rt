@@ -33,12 +33,6 @@ pub struct Split {
     all: usize,
 }
 
-/// How many conflicts tables have.
-fn count_of(tables: &Tables) -> usize {
-    let counts = tables.conflicts();
-    counts.shift_reduce.saturating_add(counts.reduce_reduce) as usize
-}
-
 /// The rules whose bodies have a nonterminal, where there are several.
 fn users_of(alloc: Global, grammar: &Grammar, symbol: Sym) -> Made<Vec<usize>> {
     let mut users = Vec::new(alloc);
@@ -73,7 +67,8 @@ fn copies_of(alloc: Global, grammar: &Grammar, rules: &[usize]) -> Made<Vec<(Sym
 /// The copy that leaves the fewest conflicts, where one leaves fewer than there are: of the left
 /// sides of the rules of a kind of conflict, for the bodies that have them.
 pub fn split_of(alloc: Global, tables: &Tables, lines: &Lines, kind: &Kind) -> Made<Option<Split>> {
-    let (grammar, all) = (grammar_of(tables), count_of(tables));
+    let (grammar, counts) = (grammar_of(tables), tables.conflicts());
+    let all = counts.shift_reduce.saturating_add(counts.reduce_reduce) as usize;
     if tables.automaton().states() > MOST_STATES {
         return Ok(None);
     }

@@ -9,7 +9,7 @@ use yexplain::reads::{
 };
 use ylalr::token_count;
 use yreasons::{Rival, settle};
-use ysymbols::{Grammar, Precedence, Sym};
+use ysymbols::{Grammar, Sym};
 use ytables::{Action, Class, Tables, standing_between};
 
 /// The most steps of all trials: one for each rule of a cell.
@@ -66,19 +66,14 @@ impl Done {
         }
         self.ready = ready_of(self.alloc, tables.automaton(), state)?;
         if !self.ready.is_empty() {
-            self.look_at_cells(tables, state);
+            for token in 0..token_count(grammar_of(tables)) {
+                if let Action::Reduce(rule) = action_of(tables, state, token) {
+                    set(&mut self.reduced, rule, true);
+                }
+            }
             self.look_at_shifts(tables, lines, state)?;
         }
         Ok(())
-    }
-
-    /// Notes the rules that are reduced in a state.
-    fn look_at_cells(&mut self, tables: &Tables, state: usize) {
-        for token in 0..token_count(grammar_of(tables)) {
-            if let Action::Reduce(rule) = action_of(tables, state, token) {
-                set(&mut self.reduced, rule, true);
-            }
-        }
     }
 
     /// Notes which precedences are compared in the cells with a shift.
@@ -88,7 +83,6 @@ impl Done {
             if let Some(token) = next_of(grammar, *item) {
                 if level_of(grammar, token).is_some() {
                     self.gather(tables, state, token)?;
-                    self.compare(token);
                     self.try_each(tables, lines, state, token);
                 }
             }
@@ -96,26 +90,20 @@ impl Done {
         Ok(())
     }
 
-    /// Takes in the rules of a cell.
+    /// Takes in the rules of a cell, and notes which precedences are compared there.
     fn gather(&mut self, tables: &Tables, state: usize, token: Sym) -> Made<()> {
         self.rivals.clear();
         for index in &self.ready {
             if let Some(candidate) = candidate_of(tables, state, token, *index) {
                 let (rule, standing) = (candidate.rule, candidate.standing);
                 self.rivals.push(Rival { rule, standing })?;
+                if standing.class() != Class::Rest {
+                    set(&mut self.by_token, token, true);
+                    set(&mut self.by_rule, rule, true);
+                }
             }
         }
         Ok(())
-    }
-
-    /// Notes which precedences are compared in the cell of these rules and a token.
-    fn compare(&mut self, token: Sym) {
-        for rival in &self.rivals {
-            if rival.standing.class() != Class::Rest {
-                set(&mut self.by_token, token, true);
-                set(&mut self.by_rule, rival.rule, true);
-            }
-        }
     }
 
     /// Notes the rules of the cell that would settle it otherwise without their `%prec`.
@@ -150,35 +138,28 @@ impl Done {
         if self.by_rule.get(rule).copied().unwrap_or(true) {
             return None;
         }
-        let hidden = Some(hidden_of(grammar, lines, rule)?);
-        let standing = standing_between(level_of(grammar, token), hidden);
+        if lines.prec(rule).is_none() || rule_of(grammar, rule)?.precedence().is_some() {
+            return None;
+        }
+        let hidden = level_of(grammar, last_token(grammar, body_of(grammar, rule))?)?;
+        let standing = standing_between(level_of(grammar, token), Some(hidden));
         Some(Rival { rule, standing })
     }
 
     /// Notes the tokens that gave a precedence to rules that settled a cell.
     pub fn spread(&mut self, grammar: &Grammar, lines: &Lines) {
         for rule in 0..grammar.rules() {
-            if self.by_rule.get(rule).copied().unwrap_or(false) {
-                if let Some(token) = giver_of(grammar, lines, rule) {
+            let Some(own) = rule_of(grammar, rule) else {
+                continue;
+            };
+            let has_settled = self.by_rule.get(rule).copied().unwrap_or(false);
+            if has_settled && own.precedence().is_some() {
+                if let Some(token) = lines.giver(grammar, rule) {
                     set(&mut self.by_token, token, true);
                 }
             }
         }
     }
-}
-
-/// The token that gives a rule its precedence, where it has one.
-fn giver_of(grammar: &Grammar, lines: &Lines, rule: usize) -> Option<Sym> {
-    rule_of(grammar, rule)?.precedence()?;
-    lines.giver(grammar, rule)
-}
-
-/// The precedence that a rule would have without its `%prec`, where that gives it none.
-fn hidden_of(grammar: &Grammar, lines: &Lines, rule: usize) -> Option<Precedence> {
-    if lines.prec(rule).is_none() || rule_of(grammar, rule)?.precedence().is_some() {
-        return None;
-    }
-    level_of(grammar, last_token(grammar, body_of(grammar, rule))?)
 }
 
 /// Whether a cell does something else, or counts other conflicts, where one of its rules stands

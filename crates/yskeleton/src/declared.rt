@@ -209,18 +209,6 @@ const BYACC_PLACES: &str = "\n#if ! defined YYLTYPE && ! defined YYLTYPE_IS_DECL
     # define YYLTYPE_IS_DECLARED 1\n#endif\n";
 
 impl Skeleton<'_> {
-    /// Writes the members that the texts of `%union` have.
-    fn put_unions(&self, out: &mut Output) {
-        for block in &self.parts.blocks {
-            if block.target == Target::Union {
-                let mut piece = block.piece;
-                let end = piece.text.len().saturating_sub(1);
-                piece.text = piece.text.get(1..end).unwrap_or(&[]);
-                self.put_piece(out, piece);
-            }
-        }
-    }
-
     /// Writes a member for each symbol that has a tag.
     fn put_fields(&self, out: &mut Output) {
         for symbol in 0..self.grammar.symbols() {
@@ -242,7 +230,14 @@ impl Skeleton<'_> {
         if self.style.options.values == Values::Symbols {
             self.put_fields(out);
         } else {
-            self.put_unions(out);
+            for block in &self.parts.blocks {
+                if block.target == Target::Union {
+                    let mut piece = block.piece;
+                    let end = piece.text.len().saturating_sub(1);
+                    piece.text = piece.text.get(1..end).unwrap_or(&[]);
+                    self.put_piece(out, piece);
+                }
+            }
         }
         out.put_pieces(&[b"};\ntypedef union ", front, name]);
     }

@@ -39,17 +39,6 @@ pub fn begun_by(role: Role) -> Option<usize> {
     }
 }
 
-/// The part of a file at a place, and its bytes.
-fn part_from(source: &[u8], at: usize) -> Option<(Part<'_>, &[u8])> {
-    let bytes = source.get(at..)?;
-    if bytes.is_empty() {
-        return None;
-    }
-    let (part, rest) = part_at(bytes).ok()?;
-    let text = bytes.get(..bytes.len().saturating_sub(rest.len()))?;
-    Some((part, text))
-}
-
 /// Adds the comments of a gap, which goes up to the next lexeme. A comment belongs to the
 /// alternative that stands before it on its line; where none does, to the one that begins next, and
 /// else to the one that it stands in.
@@ -57,9 +46,15 @@ fn add_gap<'a>(comments: &mut Vec<Comment<'a>>, source: &'a [u8], gap: Gap) -> M
     let mut at = gap.from;
     let mut owner = gap.before.or(gap.after);
     for _ in gap.from..source.len() {
-        let Some((part, text)) = part_from(source, at) else {
+        let bytes = source.get(at..).unwrap_or(&[]);
+        if bytes.is_empty() {
+            break;
+        }
+        let Ok((part, rest)) = part_at(bytes) else {
             break;
         };
+        let length = bytes.len().saturating_sub(rest.len());
+        let text = bytes.get(..length).unwrap_or(&[]);
         match (part, owner) {
             (Part::Comment, Some(alternative)) => comments.push(Comment {
                 alternative,

@@ -47,17 +47,6 @@ impl Named<'_> {
         }
         out.into_bytes()
     }
-
-    /// That a rule before it has its name. Where a comment gives the name to that one alone, it is
-    /// the place.
-    fn taken(self, name: Vec<u8>, first: Named<'_>) -> Trouble {
-        let (at, rule) = match (self.stem.given, first.stem.given) {
-            (None, Some(given)) => (given.at, self.rule),
-            _ => (self.stem.at(), first.rule),
-        };
-        let why = Why::Taken(name, rule);
-        Trouble::Refused(Refusal { at, why })
-    }
 }
 
 /// The rules from rule 1 on. Those of inner actions stand before that of their alternative.
@@ -88,7 +77,13 @@ pub fn names_of(alloc: Global, grammar: &Grammar, stems: &[Stem<'_>]) -> Result<
         let place = number_in(&names, &name);
         if place < names.len() {
             let first = rules.get(place).copied().unwrap_or(*named);
-            return Err(named.taken(name, first));
+            // where a comment gives the name to the first rule alone, that is the place
+            let (at, rule) = match (named.stem.given, first.stem.given) {
+                (None, Some(given)) => (given.at, named.rule),
+                _ => (named.stem.at(), first.rule),
+            };
+            let why = Why::Taken(name, rule);
+            return Err(Trouble::Refused(Refusal { at, why }));
         }
         intern(alloc, &mut names, &name)?;
     }

@@ -25,19 +25,6 @@ pub enum Paint {
     Bad,
 }
 
-impl Paint {
-    /// The terminal's word for it.
-    fn escape(self) -> &'static [u8] {
-        match self {
-            Paint::Plain => b"\x1b[0m",
-            Paint::Strong => b"\x1b[1m",
-            Paint::Faint => b"\x1b[2m",
-            Paint::Good => b"\x1b[32m",
-            Paint::Bad => b"\x1b[31m",
-        }
-    }
-}
-
 /// Text on its way to a writer.
 ///
 /// The page remembers the first fault of its writer, and text after it goes nowhere. `checked`
@@ -169,7 +156,14 @@ impl<W: Write> Page<W> {
     /// Sets how what follows looks.
     pub fn paint(&mut self, paint: Paint) {
         if self.colour {
-            self.send(paint.escape());
+            let escape: &'static [u8] = match paint {
+                Paint::Plain => b"\x1b[0m",
+                Paint::Strong => b"\x1b[1m",
+                Paint::Faint => b"\x1b[2m",
+                Paint::Good => b"\x1b[32m",
+                Paint::Bad => b"\x1b[31m",
+            };
+            self.send(escape);
         }
     }
 

@@ -13,26 +13,6 @@ const SOME: usize = 14;
 /// How many lines or tokens are shown at most.
 pub const MANY: usize = 1_000;
 
-/// How a mode looks, and the words for it.
-fn mode_words(mode: Mode) -> (Paint, &'static str) {
-    match mode {
-        Mode::Running => (Paint::Strong, "running"),
-        Mode::Popping => (Paint::Bad, "popping, to a state that can shift error"),
-        Mode::Accepted => (Paint::Good, "accepted"),
-        Mode::Failed => (Paint::Bad, "given up"),
-    }
-}
-
-/// How many tokens must be shifted until an error is reported again, where any must.
-fn put_counter<W: Write>(page: &mut Page<W>, session: &Session) {
-    let counter = session.view().counter();
-    if counter > 0 {
-        page.put("recovery  errors are reported again after ");
-        page.count(counter, "more shift", "more shifts");
-        page.end();
-    }
-}
-
 /// Which token is ahead.
 fn put_ahead<W: Write>(page: &mut Page<W>, session: &Session, tokens: usize) {
     let place = upcoming_token(session, 0).1;
@@ -46,9 +26,15 @@ fn put_ahead<W: Write>(page: &mut Page<W>, session: &Session, tokens: usize) {
     }
 }
 
-/// The position, the mode, the errors, and the token ahead; `tokens` were read from the file.
+/// The position, the mode, the errors, and the token ahead; `tokens` were read from the file. Then
+/// how many tokens must be shifted until an error is reported again, where any must.
 pub fn put_head<W: Write>(page: &mut Page<W>, session: &Session, tokens: usize) {
-    let (paint, words) = mode_words(session.view().mode());
+    let (paint, words) = match session.view().mode() {
+        Mode::Running => (Paint::Strong, "running"),
+        Mode::Popping => (Paint::Bad, "popping, to a state that can shift error"),
+        Mode::Accepted => (Paint::Good, "accepted"),
+        Mode::Failed => (Paint::Bad, "given up"),
+    };
     page.number_to(7, session.position());
     page.put("  ");
     page.painted(paint, words);
@@ -59,7 +45,12 @@ pub fn put_head<W: Write>(page: &mut Page<W>, session: &Session, tokens: usize) 
     }
     put_ahead(page, session, tokens);
     page.end();
-    put_counter(page, session);
+    let counter = session.view().counter();
+    if counter > 0 {
+        page.put("recovery  errors are reported again after ");
+        page.count(counter, "more shift", "more shifts");
+        page.end();
+    }
 }
 
 /// The symbols on top of the stack.
@@ -111,17 +102,8 @@ pub fn put_more<W: Write>(page: &mut Page<W>, count: usize, what: &str) {
     }
 }
 
-/// An entry of the stack: its number from the bottom, its symbol, and the state after it.
-fn put_entry<W: Write>(page: &mut Page<W>, session: &Session, index: usize) {
-    let grammar = grammar_of(session.tables());
-    page.number_to(7, index.saturating_add(1));
-    page.put("  ");
-    page.put(name_of(grammar, stack_symbol(session, index)));
-    page.tab(40);
-    let _ = writeln!(page, "state {}", stack_state(session, index));
-}
-
-/// The stack, a line for each entry, the top last: the last 1,000 of them.
+/// The stack, a line for each entry, the top last: its number from the bottom, its symbol, and the
+/// state after it. The last 1,000 of them.
 pub fn put_stack<W: Write>(page: &mut Page<W>, session: &Session) {
     let len = session.view().stack_len();
     let from = len.saturating_sub(MANY);
@@ -130,7 +112,12 @@ pub fn put_stack<W: Write>(page: &mut Page<W>, session: &Session) {
         return;
     }
     put_more(page, from, " entries below");
+    let grammar = grammar_of(session.tables());
     for index in from..len {
-        put_entry(page, session, index);
+        page.number_to(7, index.saturating_add(1));
+        page.put("  ");
+        page.put(name_of(grammar, stack_symbol(session, index)));
+        page.tab(40);
+        let _ = writeln!(page, "state {}", stack_state(session, index));
     }
 }

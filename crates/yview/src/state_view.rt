@@ -147,18 +147,6 @@ impl<'a> Shown<'a> {
         count
     }
 
-    /// The line of a token's action.
-    fn put_cell<W: Write>(self, page: &mut Page<W>, token: Sym, action: Action) {
-        page.put("   ");
-        page.put(name_of(self.grammar(), token));
-        page.tab(20);
-        put_action(page, action);
-        if has_conflict(self.tables, self.state, token) {
-            page.painted(Paint::Bad, "  (conflict)");
-        }
-        page.end();
-    }
-
     /// Whether a cell has a line of its own: what isn't a reduction, and what was settled.
     fn is_apart(self, token: Sym, action: Action) -> bool {
         match action {
@@ -175,7 +163,14 @@ impl<'a> Shown<'a> {
         for token in 0..token_count(self.grammar()) {
             let action = action_of(self.tables, self.state, token);
             if self.is_apart(token, action) {
-                self.put_cell(page, token, action);
+                page.put("   ");
+                page.put(name_of(self.grammar(), token));
+                page.tab(20);
+                put_action(page, action);
+                if has_conflict(self.tables, self.state, token) {
+                    page.painted(Paint::Bad, "  (conflict)");
+                }
+                page.end();
             }
         }
     }

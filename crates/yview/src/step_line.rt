@@ -58,15 +58,6 @@ pub fn kind_word(kind: StepKind) -> &'static str {
     }
 }
 
-/// How the word of a kind looks.
-fn kind_paint(kind: StepKind) -> Paint {
-    match kind {
-        StepKind::Accept => Paint::Good,
-        StepKind::Detect | StepKind::Fail => Paint::Bad,
-        _ => Paint::Strong,
-    }
-}
-
 /// What a kind is about: a symbol, a rule, or where an error is.
 pub fn put_subject<W: Write>(page: &mut Page<W>, grammar: &Grammar, kind: StepKind, ahead: Sym) {
     match kind {
@@ -96,7 +87,12 @@ pub fn put_rule_number<W: Write>(page: &mut Page<W>, kind: StepKind) {
 pub fn put_made<W: Write>(page: &mut Page<W>, session: &Session, line: StepLine) {
     page.number_to(7, line.position);
     page.put(if line.undone { "  undo " } else { "  " });
-    page.painted(kind_paint(line.kind), kind_word(line.kind));
+    let paint = match line.kind {
+        StepKind::Accept => Paint::Good,
+        StepKind::Detect | StepKind::Fail => Paint::Bad,
+        _ => Paint::Strong,
+    };
+    page.painted(paint, kind_word(line.kind));
     page.tab(if line.undone { 23 } else { 18 });
     put_subject(page, grammar_of(session.tables()), line.kind, line.ahead);
     put_rule_number(page, line.kind);

@@ -7,22 +7,12 @@ use std::io::Write;
 use yexplain::lines::Lines;
 use yexplain::reads::{begins_with, body_of, grammar_of, left_of, level_of, vanishes};
 use ylalr::token_count;
-use ysymbols::{Grammar, Sym};
+use ysymbols::Sym;
 use ysyntax::Role;
 use ytables::Tables;
 
 /// How many rules that use a symbol are shown.
 const SOME_RULES: usize = 40;
-
-/// The rules of a nonterminal.
-fn put_rules<W: Write>(page: &mut Page<W>, rules: Rules<'_>, symbol: Sym) {
-    page.line("defined by");
-    for rule in 0..rules.grammar.rules() {
-        if left_of(rules.grammar, rule) == Some(symbol) {
-            rules.put(page, rule);
-        }
-    }
-}
 
 /// The rules whose bodies have a symbol: the first 40 of them.
 fn put_uses<W: Write>(page: &mut Page<W>, rules: Rules<'_>, symbol: Sym) {
@@ -63,18 +53,6 @@ fn put_first<W: Write>(page: &mut Page<W>, tables: &Tables, symbol: Sym) {
     let _ = writeln!(page, "{can} be empty");
 }
 
-/// How a symbol is named outside of the rules, or by `%prec`.
-fn how_words(role: Role) -> Option<&'static str> {
-    match role {
-        Role::Declared => Some("listed by %token"),
-        Role::Levelled => Some("given a precedence"),
-        Role::Typed => Some("named by %type"),
-        Role::Start => Some("named by %start"),
-        Role::PrecName(_) => Some("named by %prec"),
-        _ => None,
-    }
-}
-
 /// Where a symbol is named outside of the rules, or by `%prec`: the first 40 places.
 fn put_mentions<W: Write>(page: &mut Page<W>, lines: &Lines, symbol: Sym) {
     let mut left = SOME_RULES;
@@ -82,23 +60,17 @@ fn put_mentions<W: Write>(page: &mut Page<W>, lines: &Lines, symbol: Sym) {
         if left == 0 || mention.symbol != symbol {
             continue;
         }
-        if let Some(words) = how_words(mention.role) {
-            left -= 1;
-            let _ = writeln!(page, "{words} on line {}", mention.spot.line);
-        }
+        let words = match mention.role {
+            Role::Declared => "listed by %token",
+            Role::Levelled => "given a precedence",
+            Role::Typed => "named by %type",
+            Role::Start => "named by %start",
+            Role::PrecName(_) => "named by %prec",
+            _ => continue,
+        };
+        left -= 1;
+        let _ = writeln!(page, "{words} on line {}", mention.spot.line);
     }
-}
-
-/// What a token is: its number and its precedence.
-fn put_token<W: Write>(page: &mut Page<W>, grammar: &Grammar, token: Sym) {
-    page.put(": a token");
-    if token < grammar.symbols() {
-        if let Some(number) = grammar.number(token) {
-            let _ = write!(page, ", number {number}");
-        }
-    }
-    put_precedence(page, level_of(grammar, token));
-    page.end();
 }
 
 /// A symbol: what it is, where it is defined and used, what it begins with.
@@ -107,10 +79,22 @@ pub fn put_symbol<W: Write>(page: &mut Page<W>, tables: &Tables, lines: &Lines, 
     let rules = Rules { grammar, lines };
     page.put(name_of(grammar, symbol));
     if grammar.is_token(symbol) {
-        put_token(page, grammar, symbol);
+        page.put(": a token");
+        if symbol < grammar.symbols() {
+            if let Some(number) = grammar.number(symbol) {
+                let _ = write!(page, ", number {number}");
+            }
+        }
+        put_precedence(page, level_of(grammar, symbol));
+        page.end();
     } else {
         page.line(": a nonterminal");
-        put_rules(page, rules, symbol);
+        page.line("defined by");
+        for rule in 0..grammar.rules() {
+            if left_of(grammar, rule) == Some(symbol) {
+                rules.put(page, rule);
+            }
+        }
         put_first(page, tables, symbol);
     }
     put_mentions(page, lines, symbol);

@@ -32,15 +32,8 @@ fn put_root<W: Write>(page: &mut Page<W>, grammar: &Grammar, node: TreeNode) {
     };
 }
 
-/// The indentation of a level, with its number where it is deep.
-fn put_indent<W: Write>(page: &mut Page<W>, level: usize) {
-    page.spaces(level.min(DEEPEST).saturating_mul(2));
-    if level > DEEPEST {
-        let _ = write!(page, "({level}) ");
-    }
-}
-
-/// The line of a tree's root; its children are to be written next, the leftmost first.
+/// The line of a tree's root, with the number of its level where it is deep; its children are to be
+/// written next, the leftmost first.
 fn put_line<'a, W: Write>(
     page: &mut Page<W>,
     grammar: &Grammar,
@@ -48,7 +41,10 @@ fn put_line<'a, W: Write>(
     next: Open<'a>,
 ) -> Made<()> {
     let (level, tree) = next;
-    put_indent(page, level);
+    page.spaces(level.min(DEEPEST).saturating_mul(2));
+    if level > DEEPEST {
+        let _ = write!(page, "({level}) ");
+    }
     put_root(page, grammar, tree.node());
     page.end();
     for index in (0..tree.children()).rev() {
