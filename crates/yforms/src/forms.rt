@@ -120,8 +120,8 @@ const CONFLICTS: &[&str] = &[
     "--save save: Writes the tokens of each conflict to a file of this folder",
     FROM,
     WARNINGS,
-    "--strict NAME?: Ends with 1 where a conflict isn't accepted, or a warning is shown; with NAME \
-     one of this category",
+    "--strict NAME?: Ends with 1 where a conflict isn't accepted, or there is a warning; of NAME \
+     alone",
     "--expect N: Accepts N shift/reduce conflicts; with N,M also M reduce/reduce ones",
     "--accept FILE: Accepts the conflicts that this file lists",
     "--update: Writes the list of accepted conflicts anew",
