@@ -87,17 +87,16 @@ impl<'a> Asked<'a> {
     fn put<W: Write>(
         self,
         alloc: Global,
-        told: Diagnostics,
+        told: &'a Diagnostics,
         inputs: Option<&'a [InputSheet]>,
         status: u8,
         out: &mut W,
     ) -> io::Result<u8> {
-        let told = told.only(alloc, self.shown)?;
         let said = Said {
             form: "check",
             grammar: self.files.grammar.path,
             status,
-            told: &told,
+            told,
             conflicts: None,
             inputs,
         };
@@ -120,7 +119,8 @@ pub fn run_checking<F: Files + AllocGlobal, R: Read, W: Write>(
         Ok(messaged) => messaged,
         Err(status) => {
             told.judge(0, Severity::Error);
-            return asked.put(alloc, told, None, status, out);
+            let told = told.only(alloc, asked.shown)?;
+            return asked.put(alloc, &told, None, status, out);
         }
     };
     let (mut sheets, mut status) = (Vec::new(alloc), 0);
@@ -129,5 +129,6 @@ pub fn run_checking<F: Files + AllocGlobal, R: Read, W: Write>(
         sheets.push(sheet).map_err(AllocError::from)?;
         status = ended.max(status);
     }
-    asked.put(alloc, told, Some(&sheets), status, out)
+    let told = told.only(alloc, asked.shown)?;
+    asked.put(alloc, &told, Some(&sheets), status, out)
 }
