@@ -2,10 +2,9 @@
 //! their rivals, with sentences for these, and with what settles them otherwise.
 
 use crate::hints::HintSheet;
-use crate::kinds::{Shown, named, names_of};
-use crate::sought::Sought;
+use crate::kinds::{named, names_of};
+use crate::scene::Scene;
 use serde::Serialize;
-use std::alloc::Global;
 use yambiguity::answer::{Answer, Sentence};
 use yambiguity::choice::Choice;
 use ycounterexample::groups::MOST_RIVALS;
@@ -14,7 +13,6 @@ use yexplain::text::{ItemText, RuleText};
 use ylalr::Item;
 use yreports::blocks::{Block, category_of};
 use ysymbols::let_go;
-use ytables::Tables;
 
 /// The most nodes of a tree that are listed.
 const MOST_NODES: usize = 100;
@@ -105,18 +103,6 @@ impl Drop for CauseSheet {
             kind, category, kinds, states, tokens, loses, rivals, ambiguous, sentences, hints
         });
     }
-}
-
-/// What causes are made of.
-#[derive(Clone, Copy)]
-pub struct Scene<'a> {
-    pub alloc: Global,
-    /// What rules are shown with.
-    pub shown: Shown<'a>,
-    /// The tables.
-    pub tables: &'a Tables,
-    /// What was sought.
-    pub sought: &'a Sought,
 }
 
 /// The word for a rival.

@@ -1,7 +1,7 @@
 //! How conflicts are settled otherwise, as data.
 
-use crate::causes::Scene;
 use crate::kinds::named;
+use crate::scene::Scene;
 use serde::Serialize;
 use std::alloc::Global;
 use yexplain::advice::{Advice, Deed, Hint};

@@ -1,10 +1,10 @@
 //! `ydebug conflicts` for programs.
 
-use crate::causes::Scene;
 use crate::common::common_sheet;
 use crate::document::{ConflictSheet, Said};
 use crate::format::Format;
 use crate::kinds::Shown;
+use crate::scene::Scene;
 use crate::sought::sought_for;
 use std::alloc::Global;
 use std::io::{self, Write};

@@ -1,7 +1,8 @@
 //! Causes of conflicts as they are told: at the first rule that loses, with a note for each
 //! sentence, for each rival at its place, and for what settles them otherwise.
 
-use crate::causes::{CauseSheet, RivalSheet, Scene, SentenceSheet};
+use crate::causes::{CauseSheet, RivalSheet, SentenceSheet};
+use crate::scene::Scene;
 use std::alloc::{AllocError, Global};
 use std::io::{self, Write};
 use yambiguity::answer::Answer;
