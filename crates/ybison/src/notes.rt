@@ -94,14 +94,6 @@ pub enum Telling {
     Weighty,
 }
 
-/// The category of a change, as bison has it for what is changed.
-fn category_of(reason: Reason) -> Category {
-    match reason {
-        Reason::MadeName | Reason::MadeSign => Category::DanglingAlias,
-        _ => Category::Yacc,
-    }
-}
-
 /// Tells the changes, and whether conflicts stay with them.
 pub fn add_notes(
     alloc: Global,
@@ -116,7 +108,10 @@ pub fn add_notes(
         if telling == Telling::All || !matches!(effect, Effect::None) {
             let mut one = at_span(alloc, source, note.span)?;
             one.severity = Severity::Warning;
-            one.category = Some(category_of(note.reason));
+            one.category = Some(match note.reason {
+                Reason::MadeName | Reason::MadeSign => Category::DanglingAlias,
+                _ => Category::Yacc,
+            });
             say_how(&mut one, &imported.texts, note.how)?;
             let (why, effect) = (note.reason.text(), effect.text(conflicts_stay));
             write!(one.message, "; {why}; {effect}")?;

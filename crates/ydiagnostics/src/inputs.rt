@@ -7,7 +7,7 @@ use std::io;
 use yexplain::reads::Made;
 use yfaults::opening::word_place;
 use yfiles::diagnostic::Diagnostics;
-use yfiles::place::{Place, Spot};
+use yfiles::place::Place;
 use yinput::language::Input;
 use yinput::spelled::Spoken;
 use yinput::verdict::{Rejection, Verdict};
@@ -47,7 +47,7 @@ fn word_of(verdict: &Verdict) -> &'static str {
 
 impl InputSheet {
     /// That of an input of which no more is known.
-    fn new(alloc: Global, path: &str, verdict: &'static str) -> Made<InputSheet> {
+    pub fn new(alloc: Global, path: &str, verdict: &'static str) -> Made<InputSheet> {
         Ok(InputSheet {
             file: String::from_str(alloc, path)?,
             verdict,
@@ -81,12 +81,6 @@ impl InputSheet {
     }
 }
 
-/// The place of a token in its tokens file.
-fn spot_of(path: &str, source: &[u8], number: usize) -> Spot {
-    let at = word_place(source, number).unwrap_or(source.len());
-    Place { path, source, at }.spot()
-}
-
 /// What is said of an input of these bytes, with a message for its error, where there is one, and
 /// the exit status where nothing else is said.
 pub fn answer_of(
@@ -102,13 +96,9 @@ pub fn answer_of(
         return Ok((sheet, 0));
     };
     if let (Verdict::Rejected(rejection), None) = (verdict, &input.text) {
-        one.spot = Some(spot_of(path, source, rejection.number));
+        let at = word_place(source, rejection.number).unwrap_or(source.len());
+        one.spot = Some(Place { path, source, at }.spot());
     }
     told.add(one)?;
     Ok((sheet, 1))
-}
-
-/// What comes of an input that has no verdict.
-pub fn refused(alloc: Global, path: &str) -> Made<InputSheet> {
-    InputSheet::new(alloc, path, "refused")
 }

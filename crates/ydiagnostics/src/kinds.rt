@@ -2,7 +2,7 @@
 
 use serde::Serialize;
 use std::alloc::Global;
-use ycounterexample::finding::{Allows, Finding, List};
+use ycounterexample::finding::{Allows, Finding};
 use ycounterexample::groups::{Conflicts, Group, Kind};
 use ycounterexample::trial::Trial;
 use yexplain::lines::Lines;
@@ -111,21 +111,16 @@ fn word_of(trial: Trial) -> &'static str {
     }
 }
 
-/// A list.
-fn list_sheet(alloc: Global, grammar: &Grammar, list: &List) -> Made<ListSheet> {
-    Ok(ListSheet {
-        rules: Vec::from_slice(alloc, &list.rules)?,
-        both: list.allows == Allows::Both,
-        tokens: names_of(alloc, grammar, &list.tokens)?,
-        parse: word_of(list.trial),
-    })
-}
-
 /// The lists that were found.
 fn list_sheets(alloc: Global, grammar: &Grammar, finding: &Finding) -> Made<Vec<ListSheet>> {
     let mut lists = Vec::new(alloc);
     for list in &finding.lists {
-        lists.push(list_sheet(alloc, grammar, list)?)?;
+        lists.push(ListSheet {
+            rules: Vec::from_slice(alloc, &list.rules)?,
+            both: list.allows == Allows::Both,
+            tokens: names_of(alloc, grammar, &list.tokens)?,
+            parse: word_of(list.trial),
+        })?;
     }
     Ok(lists)
 }
@@ -142,15 +137,6 @@ impl Shown<'_> {
         })
     }
 
-    /// The rules of a kind.
-    fn rule_sheets(self, alloc: Global, grammar: &Grammar, kind: &Kind) -> Made<Vec<RuleSheet>> {
-        let mut rules = Vec::new(alloc);
-        for rule in kind.rules() {
-            rules.push(self.rule_sheet(alloc, grammar, *rule)?)?;
-        }
-        Ok(rules)
-    }
-
     /// A kind with its lists, where they were sought.
     fn kind_sheet(
         self,
@@ -159,7 +145,10 @@ impl Shown<'_> {
         (kind, group): (&Kind, Group),
         lists: Option<Vec<ListSheet>>,
     ) -> Made<KindSheet> {
-        let rules = self.rule_sheets(alloc, grammar, kind)?;
+        let mut rules = Vec::new(alloc);
+        for rule in kind.rules() {
+            rules.push(self.rule_sheet(alloc, grammar, *rule)?)?;
+        }
         let all = kind.rivals.saturating_add(usize::from(!kind.shift));
         Ok(KindSheet {
             state: group.state,
