@@ -18,7 +18,7 @@ use ysymbols::let_go;
 const MOST_NODES: usize = 100;
 
 /// A rival: a shift in an item, or a rule.
-#[derive(Serialize)]
+#[derive(Drop, Serialize)]
 pub struct RivalSheet {
     /// `shift` or `reduce`.
     pub action: &'static str,
@@ -34,13 +34,6 @@ pub struct RivalSheet {
     pub text: String,
 }
 
-impl Drop for RivalSheet {
-    // A call in each owner, which keeps their proofs short.
-    fn drop(self) {
-        let_go!(self: RivalSheet { action, taken, rule, dot, line, column, text });
-    }
-}
-
 /// A node of a tree.
 #[derive(Drop, Serialize)]
 pub struct NodeSheet {
@@ -52,7 +45,7 @@ pub struct NodeSheet {
 }
 
 /// A sentence that a rival derives.
-#[derive(Serialize)]
+#[derive(Drop, Serialize)]
 pub struct SentenceSheet {
     /// `shift` or `reduce`, and by which rule.
     pub action: &'static str,
@@ -65,13 +58,6 @@ pub struct SentenceSheet {
     /// The least part of its tree that differs from that of the other rival, each node before those
     /// below it.
     tree: Option<Vec<NodeSheet>>,
-}
-
-impl Drop for SentenceSheet {
-    // A call in each owner, which keeps their proofs short.
-    fn drop(self) {
-        let_go!(self: SentenceSheet { action, rule, tokens, dot, refused, tree });
-    }
 }
 
 /// A cause.

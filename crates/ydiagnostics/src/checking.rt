@@ -2,7 +2,7 @@
 
 use crate::document::Said;
 use crate::format::Format;
-use crate::inputs::{InputSheet, answer_of, refused};
+use crate::inputs::{InputSheet, answer_of};
 use crate::messaged::Messaged;
 use std::alloc::{AllocError, Global};
 use std::io::{self, Read, Write};
@@ -65,7 +65,7 @@ impl Asked<'_> {
             Ok(input) => input,
             Err(fault) => {
                 let status = fault.tell(rt, told, self.files.grammar, opened)?;
-                return Ok((refused(alloc, path)?, status));
+                return Ok((InputSheet::new(alloc, path, "refused")?, status));
             }
         };
         let verdict = verdict_on(alloc, &opened.tables, &input.tokens)?;

@@ -10,7 +10,7 @@ use yexplain::reads::{Made, grammar_of};
 use yexplain::rivals::Kinds;
 use yexplain::text::Name;
 use yreports::blocks::Class;
-use ysymbols::{Associativity, Sym, let_go};
+use ysymbols::{Associativity, Sym};
 
 /// The words of lines.
 const LEFT: &str = "%left";
@@ -34,7 +34,7 @@ const ALL_KINDS: Kinds = Kinds {
 
 /// A change of the text that settles a conflict: what stands from one place of the file to another
 /// becomes a text.
-#[derive(Serialize)]
+#[derive(Drop, Serialize)]
 pub struct EditSheet {
     /// `shift` or `reduce`: what is done then.
     action: &'static str,
@@ -46,15 +46,8 @@ pub struct EditSheet {
     text: String,
 }
 
-impl Drop for EditSheet {
-    // A call in each owner, which keeps their proofs short.
-    fn drop(self) {
-        let_go!(self: EditSheet { action, file, line, column, end_line, end_column, text });
-    }
-}
-
 /// How a conflict is settled otherwise.
-#[derive(Serialize)]
+#[derive(Drop, Serialize)]
 pub struct HintSheet {
     /// What it takes.
     advice: &'static str,
@@ -72,15 +65,6 @@ pub struct HintSheet {
     also: Vec<usize>,
     /// Changes of the text that do it for the first token, where they are known.
     edits: Vec<EditSheet>,
-}
-
-impl Drop for HintSheet {
-    // A call in each owner, which keeps their proofs short.
-    fn drop(self) {
-        let_go!(self: HintSheet {
-            advice, rule, tokens, giver, shifts, reduces, own, also, edits
-        });
-    }
 }
 
 /// What a hint says: what it takes, the token that gives the rule its precedence, words that shift

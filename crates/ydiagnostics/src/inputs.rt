@@ -38,7 +38,7 @@ impl Drop for InputSheet {
 
 impl InputSheet {
     /// That of an input of which no more is known.
-    fn new(alloc: Global, path: &str, verdict: &'static str) -> Made<InputSheet> {
+    pub fn new(alloc: Global, path: &str, verdict: &'static str) -> Made<InputSheet> {
         Ok(InputSheet {
             file: String::from_str(alloc, path)?,
             verdict,
@@ -93,9 +93,4 @@ pub fn answer_of(
     }
     told.add(one)?;
     Ok((sheet, 1))
-}
-
-/// What comes of an input that has no verdict.
-pub fn refused(alloc: Global, path: &str) -> Made<InputSheet> {
-    InputSheet::new(alloc, path, "refused")
 }

@@ -145,7 +145,10 @@ impl Shown<'_> {
         (kind, group): (&Kind, Group),
         lists: Option<Vec<ListSheet>>,
     ) -> Made<KindSheet> {
-        let rules = self.rule_sheets(alloc, grammar, kind)?;
+        let mut rules = Vec::new(alloc);
+        for rule in kind.rules() {
+            rules.push(self.rule_sheet(alloc, grammar, *rule)?)?;
+        }
         let all = kind.rivals.saturating_add(usize::from(!kind.shift));
         Ok(KindSheet {
             state: group.state,

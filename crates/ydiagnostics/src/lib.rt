@@ -2,8 +2,8 @@
 //! compiler writes them, or one document in JSON.
 //!
 //! `format` has the forms, and `sheet` what is said of a place. `kinds` has the conflicts, `causes`
-//! those that are alike, with what `sought` finds for them and with the `hints` on them, all in a
-//! `scene`; `told` says them in words, and `common` has what many have in common. `inputs` has the
+//! those that are alike, made in a `scene`, with what `sought` finds for them and with the `hints`
+//! on them, `told` says them in words, and `common` has what many have in common. `inputs` has the
 //! verdicts, `messaged` the messages for them, and `document` writes all of it. `report` and
 //! `checking` are the runs.
 #![tactic(auto)]

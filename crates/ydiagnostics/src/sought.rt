@@ -9,7 +9,7 @@ use yexplain::lines::Lines;
 use yparse::Session;
 use yreports::also::try_hints;
 use yreports::ambiguity::answers_of;
-use yreports::blocks::{Block, Blocks, blocks_of};
+use yreports::blocks::{Blocks, blocks_of};
 
 /// The most kinds for which lists are sought.
 const MOST_SOUGHT: usize = 200;
@@ -65,14 +65,4 @@ pub fn sought_for(
         sought.findings.push(finding).map_err(AllocError::from)?;
     }
     Ok(sought)
-}
-
-impl Sought {
-    /// What was found for the first kind of a block, by the place of the block.
-    pub fn of(&self, place: usize) -> Option<(&Finding, &[Answer])> {
-        let block: &Block = self.blocks.list.get(place)?;
-        let finding = self.findings.get(block.first.number)?;
-        let answers = self.answers.get(place)?.as_slice();
-        Some((finding, answers))
-    }
 }

@@ -1,7 +1,7 @@
 //! Causes of conflicts as they are told: at the first rule that loses, with a note for each
 //! sentence, for each rival at its place, and for what settles them otherwise.
 
-use crate::causes::{CauseSheet, RivalSheet, SentenceSheet};
+use crate::causes::{CauseSheet, RivalSheet};
 use crate::scene::Scene;
 use std::alloc::{AllocError, Global};
 use std::io::{self, Write};
@@ -67,15 +67,6 @@ fn put_tokens<W: Write>(out: &mut W, tokens: &[String], dot: usize) -> io::Resul
     Ok(())
 }
 
-/// Writes a sentence for a rival.
-fn put_sentence<W: Write>(out: &mut W, sentence: &SentenceSheet) -> io::Result<()> {
-    match sentence.rule {
-        Some(rule) => write!(out, "by rule {rule}:")?,
-        None => write!(out, "by the shift:")?,
-    }
-    put_tokens(out, &sentence.tokens, sentence.dot)
-}
-
 /// A rival as a note at its rule.
 fn rival_note(alloc: Global, rival: &RivalSheet) -> io::Result<Note> {
     let mut text = Vec::new(alloc);
@@ -119,13 +110,18 @@ impl Scene<'_> {
         let grammar = grammar_of(self.tables);
         for sentence in &cause.sentences {
             let mut text = Vec::new(self.alloc);
-            if cause.ambiguous {
-                write!(text, "the grammar is ambiguous: two trees for")?;
-                put_tokens(&mut text, &sentence.tokens, sentence.dot)?;
-                return Ok(one.help(text)?);
+            match sentence.rule {
+                _ if cause.ambiguous => {
+                    write!(text, "the grammar is ambiguous: two trees for")?;
+                }
+                Some(rule) => write!(text, "by rule {rule}:")?,
+                None => write!(text, "by the shift:")?,
             }
-            put_sentence(&mut text, sentence)?;
+            put_tokens(&mut text, &sentence.tokens, sentence.dot)?;
             one.help(text)?;
+            if cause.ambiguous {
+                return Ok(());
+            }
         }
         if let (true, Some(finding), Some(token)) = (
             cause.sentences.is_empty(),
@@ -181,13 +177,13 @@ impl Scene<'_> {
         let (alloc, blocks) = (self.alloc, &self.sought.blocks);
         let mut causes = Vec::new(alloc);
         for (place, block) in blocks.list.iter().enumerate() {
-            let found = self.sought.of(place);
-            let answers: &[Answer] = match found {
-                Some((_, answers)) => answers,
+            let finding = self.sought.findings.get(block.first.number);
+            let answers: &[Answer] = match self.sought.answers.get(place) {
+                Some(answers) => answers,
                 None => &[],
             };
             let cause = self.cause(block, answers)?;
-            told.add(self.told(block, &cause, found.map(|found| found.0))?)?;
+            told.add(self.told(block, &cause, finding)?)?;
             causes.push(cause).map_err(AllocError::from)?;
         }
         for (kind, group) in found.groups.iter().skip(blocks.kinds) {

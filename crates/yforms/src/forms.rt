@@ -178,8 +178,7 @@ const CONFLICTS: &[Argument] = &[
     (
         "strict",
         Way::Optional("NAME"),
-        "Ends with 1 where a conflict isn't accepted, or a warning is shown; with NAME one of this \
-         category",
+        "Ends with 1 where a conflict isn't accepted, or there is a warning; of NAME alone",
     ),
     (
         "expect",
