@@ -145,10 +145,7 @@ impl Shown<'_> {
         (kind, group): (&Kind, Group),
         lists: Option<Vec<ListSheet>>,
     ) -> Made<KindSheet> {
-        let mut rules = Vec::new(alloc);
-        for rule in kind.rules() {
-            rules.push(self.rule_sheet(alloc, grammar, *rule)?)?;
-        }
+        let rules = self.rule_sheets(alloc, grammar, kind)?;
         let all = kind.rivals.saturating_add(usize::from(!kind.shift));
         Ok(KindSheet {
             state: group.state,
