@@ -79,9 +79,9 @@ fn tried(
 }
 
 /// What is known of a token as one that could come next in a parse whose stack has these states,
-/// the first state of all at the bottom; a trial makes so many reductions at most, and shows nothing
-/// exactly where so many come. Neither the states nor the parse changes; only an `Err` tells
-/// nothing: memory ran out.
+/// the first state of all at the bottom. A trial makes so many reductions at most, and is untold
+/// exactly where so many come. The states stay, and so does the parse. Only an `Err` tells nothing:
+/// memory ran out.
 pub fn outlook_over(
     alloc: Global,
     tables: &Tables,
