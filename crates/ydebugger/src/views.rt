@@ -18,12 +18,13 @@ use yinput::Parse;
 use yinput::expected::{Wanted, expected};
 use ylists::kinds::{put_counts, put_named, put_states};
 use yparse::machine::Mode;
+use yparse::states::stack_states;
 use yreasons::Reasons;
 use ysymbols::{Grammar, Sym};
 use yview::derivation::{SOME_FORMS, put_derivation, size_of_derivation};
 use yview::grammar_view::Rules;
 use yview::page::Page;
-use yview::reading::{last_rule, last_state, name_of, states_of_stack, token_ahead};
+use yview::reading::{last_rule, last_state, name_of, token_ahead};
 use yview::state_view::put_state;
 use yview::symbol_view::put_symbol;
 use yview::tree_text::{SOME_LINES, put_tree, put_trees};
@@ -181,7 +182,7 @@ impl<W: Write> View<'_, W> {
         let (session, tables) = (parse.session(), parse.tables());
         let none = match session.view().mode() {
             Mode::Running => {
-                let states = states_of_stack(self.alloc, session)?;
+                let states = stack_states(self.alloc, session)?;
                 let found = expected(self.alloc, tables, &states)?;
                 put_found(self.page, grammar_of(tables), &found);
                 return Ok(());

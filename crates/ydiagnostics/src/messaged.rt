@@ -55,7 +55,7 @@ impl Messaged {
             return Ok(None);
         };
         let spoken = self.language.spoken();
-        match messages.of(rejection.state()) {
+        match messages.of(rejection.state) {
             Some(message) => filled(alloc, spoken, message, input, rejection).map(Some),
             None => Ok(None),
         }

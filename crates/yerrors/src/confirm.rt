@@ -6,10 +6,11 @@ use yinput::expected::{Wanted, expected_within};
 use ylalr::END;
 use yparse::Session;
 use yparse::machine::StepKind;
+use yparse::states::stack_states;
 use ysearch::budget::Share;
 use ysearch::trial::{Pace, go_back, put_with_last};
 use ysymbols::{Sym, let_go};
-use yview::reading::{stack_symbol, states_of_stack};
+use yview::reading::stack_symbol;
 
 /// The most steps of a session over a list.
 const MOST_STEPS: usize = 200_000;
@@ -61,7 +62,7 @@ fn states_before(
     for _ in 0..MOST_STEPS {
         let is_last = session.view().rest_len() == after;
         if is_last && states.is_none() {
-            states = Some(states_of_stack(alloc, session)?);
+            states = Some(stack_states(alloc, session)?);
         }
         match pace.step(session)? {
             Some(StepKind::Detect) if is_last && session.state() == state => return Ok(states),

@@ -3,11 +3,12 @@
 //!
 //! `spelled` has what people call tokens. `grammars` opens grammar files, `spec` what cuts texts,
 //! and `language` both; a language reads inputs. `text` has the text that tokens were cut from,
-//! `fault` why there are none. `source` opens parses, and `parse` is one. `expected` has the tokens
-//! that can come over a stack, `verdict` what comes of an input, and `verdict_text` writes that for
-//! people and as plain lines.
+//! `fault` why there are none. `source` opens parses, and `parse` is one. `course` is a parse
+//! by states alone, `expected` has the tokens that can come over these, `verdict` what comes of an
+//! input, and `verdict_text` writes that for people and as plain lines.
 #![tactic(auto)]
 
+mod course;
 pub mod expected;
 pub mod fault;
 pub mod grammars;

@@ -1,6 +1,7 @@
 //! The verdict on an input.
 
-use crate::expected::{Entry, Wanted, expected, stack_at, states_after};
+use crate::course::Course;
+use crate::expected::{Wanted, expected};
 use std::alloc::Global;
 use std::io::{self, ErrorKind};
 use yexplain::reads::Made;
@@ -29,8 +30,11 @@ pub struct Rejection {
     pub token: Sym,
     /// The tokens that can come in its place.
     pub wanted: Wanted,
-    /// The stack at which it is detected, the first state of all at the bottom.
-    pub stack: Vec<Entry>,
+    /// The state in which it is detected.
+    pub state: usize,
+    /// How many tokens were shifted before each entry of the stack at which it is detected, the
+    /// first state of all counting as one at the bottom.
+    pub starts: Vec<usize>,
 }
 
 impl Rejection {
@@ -44,18 +48,19 @@ impl Rejection {
         let taken = number.saturating_sub(1);
         let before = tokens.get(..taken).unwrap_or(tokens);
         let token = tokens.get(taken).copied().unwrap_or(END);
-        let states = states_after(alloc, tables, before)?;
+        let mut course = Course::new(alloc, tables)?;
+        course.shift_all(before)?;
+        let wanted = expected(alloc, tables, &course.states)?;
+        course.detect(token)?;
+        let state = course.states.last().copied().unwrap_or(0);
+        let Course { starts, .. } = course;
         Ok(Rejection {
             number,
             token,
-            wanted: expected(alloc, tables, &states)?,
-            stack: stack_at(alloc, tables, before, token)?,
+            wanted,
+            state,
+            starts,
         })
-    }
-
-    /// The state in which it is detected.
-    pub fn state(&self) -> usize {
-        self.stack.last().map_or(0, |entry| entry.state)
     }
 }
 

@@ -62,7 +62,7 @@ fn came_of(verdict: &Verdict, count: usize, ended: bool) -> Came {
         Verdict::Accepted(_) => Came::Accepted,
         Verdict::Undecided => Came::Undecided,
         Verdict::Rejected(rejection) if rejection.number == last => {
-            Came::Claims(rejection.state())
+            Came::Claims(rejection.state)
         }
         Verdict::Rejected(rejection) if rejection.number < last => { Came::Early(rejection.number) }
         Verdict::Rejected(_) => Came::AtEnd,

@@ -3,7 +3,6 @@
 use crate::slots::{Slot, slots_of};
 use std::alloc::Global;
 use std::io::{self, Write};
-use yinput::expected::Entry;
 use yinput::language::Input;
 use yinput::spelled::Spoken;
 use yinput::text::Text;
@@ -87,14 +86,14 @@ impl<'a> Filling<'a> {
     /// come, where there is no such entry.
     fn start(self, index: usize) -> usize {
         let rejection = self.rejection;
-        let entry: Option<&Entry> = rejection.stack.get(index);
-        entry.map_or(rejection.before(), |entry| entry.start)
+        let start = rejection.starts.get(index).copied();
+        start.unwrap_or(rejection.before())
     }
 
     /// Writes an entry of the stack, counted from 1 at the top; nothing where there is none.
     fn put_entry<W: Write>(self, out: &mut W, number: usize) -> io::Result<()> {
         let rejection = self.rejection;
-        match rejection.stack.len().checked_sub(number) {
+        match rejection.starts.len().checked_sub(number) {
             Some(index) if index > 0 => {
                 let end = self.start(index.saturating_add(1));
                 self.put_part(out, self.start(index), end)

@@ -8,9 +8,9 @@ use std::io;
 use yexplain::reads::{Made, grammar_of};
 use yparse::Session;
 use yparse::machine::StepKind;
+use yparse::states::stack_states;
 use ysearch::trial::{Pace, go_back, put_all};
 use ysymbols::Sym;
-use yview::reading::states_of_stack;
 
 /// The most steps of a parse over a list.
 const MOST_STEPS: usize = 100_000;
@@ -82,7 +82,7 @@ impl<'a> Trier<'a> {
         if put_all(self.session, tokens)? {
             for _ in 0..MOST_STEPS {
                 if self.session.view().rest_len() == 0 {
-                    found = Some(states_of_stack(self.alloc, self.session)?);
+                    found = Some(stack_states(self.alloc, self.session)?);
                     break;
                 }
                 match pace.step(self.session)? {

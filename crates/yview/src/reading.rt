@@ -1,8 +1,7 @@
 //! Readings of a parse that answer for any number, and names as text.
 
-use std::alloc::Global;
 use std::str;
-use yexplain::reads::{self, Made};
+use yexplain::reads;
 use ylalr::END;
 use yparse::machine::Mode;
 use yparse::{Session, TreeView};
@@ -59,16 +58,6 @@ pub fn stack_state(session: &Session, index: usize) -> usize {
     } else {
         0
     }
-}
-
-/// The states of a session's stack, the first state of all at the bottom.
-pub fn states_of_stack(alloc: Global, session: &Session) -> Made<Vec<usize>> {
-    let mut states = Vec::new(alloc);
-    states.push(0)?;
-    for index in 0..session.view().stack_len() {
-        states.push(stack_state(session, index))?;
-    }
-    Ok(states)
 }
 
 /// An upcoming token and its place; `$end` after the last.
