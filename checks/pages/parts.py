@@ -1,10 +1,10 @@
-"""The text of a page but for its data, from the sources of `ypage`."""
+"""The text of a page but for its data, from the sources of `yhtml`."""
 import json
 import re
 
 from checks.shared.places import CRATES
 
-SOURCES = CRATES / "ypage" / "src"
+SOURCES = CRATES / "yhtml" / "src"
 
 
 def constant(file, name):

@@ -4,7 +4,7 @@
 
 FOLDER is a scenario whose `page.json` holds, written by hand, what its page must show, with blanks
 and newlines between the parts; without one, all of them below scenarios/ are meant. Its
-`stdout.sum` becomes that of the page: the texts of the sources of `ypage`, with the JSON between
+`stdout.sum` becomes that of the page: the texts of the sources of `yhtml`, with the JSON between
 them, where nothing but texts has blanks and `\\u003c` stands for each `<`.
 """
 import hashlib

@@ -3,10 +3,10 @@
 use crate::comments::Numbers;
 use std::alloc::Global;
 use std::io::{self, Write};
-pub use ybison::compared::Counts;
-use ybison::notes::Source;
 use yfiles::category::Category;
 use yfiles::diagnostic::{Diagnostic, Diagnostics, Severity};
+pub use yfrontend::compared::Counts;
+use yfrontend::notes::Source;
 use yimport::symbols::Expected;
 
 /// The numbers of conflicts that are expected, and who expects them.

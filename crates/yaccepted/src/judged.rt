@@ -11,12 +11,12 @@ use std::alloc::{AllocError, Global};
 use std::fs;
 use std::io::{self, ErrorKind, Write};
 use std::rt::Files;
-use ybison::notes::Source;
 use yexplain::text::Bytes;
 use yfaults::opening::Opened;
 use yfiles::diagnostic::{Diagnostic, Diagnostics, Severity};
 use yfiles::reading::{LONGEST_INPUT, Limited, unwritten};
 use yfiles::writing::write_over;
+use yfrontend::notes::Source;
 
 /// The most conflicts that are listed of those that are new, and of those that are gone.
 const MOST_TOLD: usize = 1_000;

@@ -6,11 +6,11 @@ use crate::refusal::wrong_comment;
 use std::alloc::Global;
 use std::io;
 use std::rt::Files;
-use ybison::import::{Dialect, Foreign, Read, open_grammar};
-use ybison::notes::Source;
 use yfaults::opening::{Opened, grammar_bytes};
 use yfiles::diagnostic::Diagnostics;
 use yfiles::reading::unread;
+use yfrontend::import::{Dialect, Foreign, Read, open_grammar};
+use yfrontend::notes::Source;
 
 /// A grammar file, and whether the numbers that its comments expect are read.
 #[derive(Clone, Copy)]

@@ -4,9 +4,9 @@ use crate::comments::{self, Wrong};
 use crate::list::Why;
 use std::alloc::Global;
 use std::io::{self, Write};
-use ybison::notes::Source;
 use yfiles::diagnostic::Diagnostic;
 use yfiles::place::Place;
+use yfrontend::notes::Source;
 
 impl Why {
     /// Says what is wrong.

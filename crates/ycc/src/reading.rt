@@ -1,13 +1,13 @@
 //! A grammar file read: one that `yacc` takes as `yacc` reads it, any other by its import.
 
 use crate::ending::{Ending, File};
-use ybison::import::{Foreign, import_of, open_import};
-use ybison::notes::Source;
 use yexplain::reads::grammar_of;
 use yfaults::opening::{Opened, Trouble as Unopened, add_trouble};
 use yfiles::diagnostic::Diagnostics;
 use yfiles::output::Output;
 use yfiles::steady::Steady;
+use yfrontend::import::{Foreign, import_of, open_import};
+use yfrontend::notes::Source;
 use ygrammar::{Grammar, Mapped, Mark, read_mapped};
 use yimport::import::Imported;
 use yimport::symbols::Expected;

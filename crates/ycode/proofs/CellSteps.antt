@@ -20,7 +20,7 @@ use Rattle.ytables.specs.Cell.{by_default}
 use Rattle.ytables.specs.Tables.{TablesValue, AreTables, has_before, shift_by, shift_of, shift_to}
 use Rattle.ytables.specs.Tables.{class_in, rules_by, ready_in, cell_in, default_in}
 use Rattle.ytables.specs.Tables.{action_at, default_at}
-use Rattle.yrows.specs.Packed.{entry_of}
+use Rattle.ybitsets.specs.Packed.{entry_of}
 use Rattle.ycode.specs.Cells.{Fits, number_for, is_error, states_of, tokens_of, rules_of}
 use Rattle.ycode.specs.Reading.{done_by, is_explicit}
 use Rattle.ycode.specs.Targets.{beside}

@@ -5,8 +5,9 @@ use Rattle.std.specs.Prelude.{is_some, unwrap_or, length}
 use Rattle.std.specs.List.{flat_map, fold, range_with_len}
 use Rattle.ylalr.specs.Collection.{Collection, Guide, IsGuide}
 use Rattle.ytables.specs.Cell.{is_reduce}
-use Rattle.ytables.specs.Tables.{TablesValue, AreTables, action_at, action_in, default_at, default_in}
-use Rattle.yreasons.specs.Candidates.{shift_in}
+use Rattle.ytables.specs.Tables.{TablesValue, AreTables, action_at, action_in, default_at}
+use Rattle.ytables.specs.Tables.{default_in}
+use Rattle.yprovenance.specs.Candidates.{shift_in}
 use Rattle.ycode.specs.Bits.{SetsValue, bytes_for, number_of, with_set}
 use Rattle.ycode.specs.Cells.{states_of, tokens_of, rules_of, span_of, is_error}
 use Rattle.ycode.specs.Cells.{number_for, wanted_at, rule_in, usual_rule}

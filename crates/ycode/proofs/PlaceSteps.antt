@@ -1,7 +1,8 @@
 -- Where a row can begin, and what its cells are then.
 use Rattle.std.proofs.Common.{ℕ, zero, suc, ◌≡◌, ◌≢◌, ◌+◌, ◌-◌, ◌<◌, ◌≤◌, ◌⊎◌, inl, inr, Bool, true}
 use Rattle.std.proofs.Common.{false, not, ◌&&◌, ◌||◌, cond, nat_eq, nat_le, List, [], ◌∷◌, length}
-use Rattle.std.proofs.Common.{get_or, map, max, refl, sym, ap, ◌∙◌, subst, arith, Option, Some, None}
+use Rattle.std.proofs.Common.{get_or, map, max, refl, sym, ap, ◌∙◌, subst, arith, Option, Some}
+use Rattle.std.proofs.Common.{None}
 use Rattle.std.proofs.Common.{is_some, unwrap_or, slice_index, if◌then◌else◌}
 use Rattle.std.specs.List.{filter, list_any, position_or_len, range_with_len}
 use Rattle.std.proofs.lemmas.Bool.{cases_eq, cases_Bool, and_parts, and_cases, and_right, or_cases}
@@ -13,7 +14,8 @@ use Rattle.std.proofs.lemmas.List.FromFn.{length-map-range_with_len, get_or-map-
 use Rattle.std.proofs.lemmas.List.FromFn.{length-range_with_len, get_or-range_with_len}
 use Rattle.std.proofs.lemmas.List.Sums.{prefix_len_is}
 use Rattle.ysymbols.proofs.NameSteps.{false_true}
-use Rattle.ycode.specs.Packing.{PackingValue, Begins, IsPacking, IsEven, FitsAt, is_taken, can_begin}
+use Rattle.ycode.specs.Packing.{PackingValue, Begins, IsPacking, IsEven, FitsAt, is_taken}
+use Rattle.ycode.specs.Packing.{can_begin}
 use Rattle.ycode.specs.Packing.{first_place, columns_in, number_there, with_row}
 use Rattle.ycode.proofs.PackingSteps.{less_or_not, in_row}
 

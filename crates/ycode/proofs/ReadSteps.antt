@@ -6,12 +6,12 @@ use Rattle.std.proofs.Math.Nat.{mul-le-mul}
 use Rattle.std.proofs.lemmas.List.{get_or_past}
 use Rattle.std.proofs.lemmas.List.FromFn.{length-map-range_with_len, get_or-map-range_with_len}
 use Rattle.ysymbols.specs.Grammar.{most_symbols}
-use Rattle.yrows.specs.Limits.{most_states}
+use Rattle.ybitsets.specs.Limits.{most_states}
 use Rattle.ylalr.specs.Collection.{goto_in}
 use Rattle.ytables.specs.declared.cell.Action.{Action}
 use Rattle.ytables.specs.declared.cell.Action.TheVariants.{Shift, Reduce, Accept, Error}
 use Rattle.ytables.specs.Tables.{TablesValue, action_at, default_at}
-use Rattle.yreasons.specs.Candidates.{shift_in}
+use Rattle.yprovenance.specs.Candidates.{shift_in}
 use Rattle.ycode.specs.declared.comb.Comb.{Comb}
 use Rattle.ycode.specs.declared.entry.Entry.{Entry}
 use Rattle.ycode.specs.declared.sizes.Sizes.{Sizes}

@@ -8,9 +8,9 @@ use Rattle.ytables.specs.declared.cell.Action.{Action}
 use Rattle.ytables.specs.declared.cell.Action.TheVariants.{Shift, Reduce, Accept, Error}
 use Rattle.ytables.specs.Cell.{is_reduce}
 use Rattle.ytables.specs.Tables.{TablesValue, action_at, default_at}
-use Rattle.yreasons.specs.Candidates.{shift_in}
+use Rattle.yprovenance.specs.Candidates.{shift_in}
 use Rattle.ysymbols.specs.Grammar.{most_symbols, most_rules}
-use Rattle.yrows.specs.Limits.{most_states}
+use Rattle.ybitsets.specs.Limits.{most_states}
 use Rattle.ycode.specs.declared.entry.Entry.{Entry}
 use Rattle.ycode.specs.declared.sizes.Sizes.{Sizes}
 use Rattle.ycode.specs.Bits.{SetsValue, HasSet, AreListed, bit_of, bytes_for, with_set, number_of}

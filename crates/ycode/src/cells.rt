@@ -10,7 +10,7 @@ ghost use Rattle.ycode.specs.Cells.{Fits, number_for, wanted_at, is_refused, IsU
 ghost use Rattle.ycode.specs.Cells.{AreCells, AreSets, AreSizes, states_of, tokens_of, rules_of};
 ghost use Rattle.ycode.specs.Cells.{rule_in, reductions_in, with_set_in, set_number};
 ghost use Rattle.ysymbols.specs.Grammar.{most_rules};
-ghost use Rattle.yrows.specs.Limits.{most_states};
+ghost use Rattle.ybitsets.specs.Limits.{most_states};
 ghost use Rattle.ycode.specs.Entries.{entry_at, entries_for, EntriesAtMost};
 
 use crate::entry::{Entry, push_number};
@@ -18,8 +18,8 @@ use crate::sets::Sets;
 use crate::sizes::Sizes;
 use crate::usual::most_usual;
 use std::alloc::{AllocError, Global};
-use yreasons::shift_at;
-use yrows::list::Sequence;
+use ybitsets::list::Sequence;
+use yprovenance::shift_at;
 use ysymbols::Sym;
 use ytables::{Action, Tables};
 

@@ -4,7 +4,7 @@ ghost use Rattle.std.specs.Prelude.{ℕ, ◌≡◌, ◌<◌, None, IfOk, OnOk, l
 ghost use Rattle.ycode.specs.Entries.{Adds, entry_at, number_at, or_else};
 
 use std::alloc::{AllocError, Global};
-use yrows::list::Sequence;
+use ybitsets::list::Sequence;
 
 /// A number at a column of a row.
 #[derive(Clone, Copy, Debug, Drop, PartialEq, Eq)]

@@ -1,6 +1,7 @@
 //! Slots of which some are taken, 64 to a word, so that 64 displacements are looked at together.
 
-ghost use Rattle.std.specs.Prelude.{ℕ, ◌≡◌, ◌<◌, ◌≤◌, ◌+◌, ◌^◌, ◌⊎◌, All, OnOk, slice_index, vec_len};
+ghost use Rattle.std.specs.Prelude.{ℕ, ◌≡◌, ◌<◌, ◌≤◌, ◌+◌, ◌^◌, ◌⊎◌, All, OnOk, slice_index};
+ghost use Rattle.std.specs.Prelude.{vec_len};
 ghost use Rattle.std.specs.Int.{bit_at};
 ghost use Rattle.ycode.specs.Slots.{IsTaken, MeetsTaken, IsMoved};
 

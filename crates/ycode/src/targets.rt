@@ -11,7 +11,7 @@ use crate::entry::{Entry, push_number};
 use crate::sizes::Sizes;
 use crate::usual::most_usual;
 use std::alloc::{AllocError, Global};
-use yrows::list::Sequence;
+use ybitsets::list::Sequence;
 use ytables::Tables;
 
 /// What the arrays have of the gotos of all states.

@@ -8,18 +8,18 @@
 //! names the rules of a grammar for programs that read its table, and `ydebug table` writes that
 //! as `yacc` does.
 //!
-//! What words ask for is done by `yforms`, over the files and the streams of the system.
+//! What words ask for is done by `ycommandline`, over the files and the streams of the system.
 #![tactic(auto)]
 
 use std::alloc::AllocError;
 use std::env;
 use std::io::{BufWriter, IsTerminal, Write};
 use std::process::ExitCode;
+use ycommandline::{Ended, Given, Setting, status_of};
 use yexplain::text::Escaped;
 use yfiles::arguments::{Arguments, arguments_of};
 use yfiles::breaking::Breaking;
 use yfiles::steady::Steady;
-use yforms::{Ended, Given, Setting, status_of};
 
 /// Whether an environment variable is set to something that counts.
 fn is_set(rt: &HostRuntime, name: &str) -> bool {

@@ -19,7 +19,7 @@ use yinput::expected::{Wanted, expected};
 use ylists::kinds::{put_counts, put_named, put_states};
 use yparse::machine::Mode;
 use yparse::states::stack_states;
-use yreasons::Reasons;
+use yprovenance::Reasons;
 use ysymbols::{Grammar, Sym};
 use yview::derivation::{SOME_FORMS, put_derivation, size_of_derivation};
 use yview::grammar_view::Rules;

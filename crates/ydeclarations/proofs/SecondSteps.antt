@@ -14,7 +14,8 @@ use Rattle.ydeclarations.specs.declared.mistake.Refused.{Refused}
 use Rattle.ydeclarations.specs.declared.mistake.Refused.TheVariants as refused
 use Rattle.ydeclarations.specs.declared.outline.Listed.{Listed}
 use Rattle.ydeclarations.specs.declared.outline.Outline.{Outline}
-use Rattle.ydeclarations.specs.Elaboration.{Listing, gives_of, listed_name, listings, option_list, said_of}
+use Rattle.ydeclarations.specs.Elaboration.{Listing, gives_of, listed_name, listings, option_list}
+use Rattle.ydeclarations.specs.Elaboration.{said_of}
 use Rattle.ydeclarations.specs.Elaboration.{tokens}
 use Rattle.ydeclarations.specs.Outline.{Outlines, listed_view}
 use Rattle.ydeclarations.specs.OutlineSites.{IsPlaced, OutlineSites, is_of_rule, occurrence_at}

@@ -10,7 +10,8 @@ use Rattle.ydeclarations.specs.Elaboration.{option_list}
 use Rattle.ydeclarations.specs.OutlineSites.{digits_at, entries_in, is_of_rule, left_of, lefts_in}
 use Rattle.ydeclarations.specs.OutlineSites.{listed_entry, numbers_at}
 use Rattle.ydeclarations.specs.OutlineSites.{name_at, occurrence_at, prec_of, precs_in, start_at}
-use Rattle.ydeclarations.specs.OutlineSites.{starts_in, symbol_in, typed_in, typed_of, use_of, used_in}
+use Rattle.ydeclarations.specs.OutlineSites.{starts_in, symbol_in, typed_in, typed_of, use_of}
+use Rattle.ydeclarations.specs.OutlineSites.{used_in}
 use Rattle.ydeclarations.specs.Places.{digits_of, listed_of, select, start_of}
 use Rattle.ysyntax.specs.declared.tree.BodyPart.{BodyPart as CodeBodyPart}
 use Rattle.ysyntax.specs.declared.tree.BodyPart.TheVariants as items

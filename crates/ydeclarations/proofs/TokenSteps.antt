@@ -7,9 +7,11 @@ use Rattle.std.specs.Str.{bytes_eq}
 use Rattle.std.specs.Cmp.Lexicographic.{same_text}
 use Rattle.std.proofs.lemmas.List.{length-map, map-append}
 use Rattle.std.proofs.lemmas.List.Folds.{list_any-append}
-use Rattle.ydeclarations.specs.Elaboration.{Listing, appearances, identifiers_of, is_literal, is_token}
+use Rattle.ydeclarations.specs.Elaboration.{Listing, appearances, identifiers_of, is_literal}
+use Rattle.ydeclarations.specs.Elaboration.{is_token}
 use Rattle.ydeclarations.specs.Elaboration.{level_at, given_by, listed_name, listing_of, listings}
-use Rattle.ydeclarations.specs.Elaboration.{listings_from, option_list, said_of, token_names_of, tokens}
+use Rattle.ydeclarations.specs.Elaboration.{listings_from, option_list, said_of, token_names_of}
+use Rattle.ydeclarations.specs.Elaboration.{tokens}
 use Rattle.ydeclarations.specs.Elaboration.{uses, who_of}
 use Rattle.ysymbols.specs.Names.{Name, is_among, with_name, with_names, number_in}
 use Rattle.ydeclarations.specs.Printed.{printed_name}

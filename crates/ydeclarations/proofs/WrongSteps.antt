@@ -14,7 +14,8 @@ use Rattle.std.proofs.lemmas.List.{take_more}
 use Rattle.std.proofs.lemmas.Option.{get_or_from_slice_get, slice_get_within, slice_get-get_or}
 use Rattle.std.proofs.lemmas.Option.{slice_get-map}
 use Rattle.ydeclarations.specs.declared.outline.Listed.{Listed}
-use Rattle.ydeclarations.specs.Elaboration.{Listing, digits_number, first_or, listed_name, option_list}
+use Rattle.ydeclarations.specs.Elaboration.{Listing, digits_number, first_or, listed_name}
+use Rattle.ydeclarations.specs.Elaboration.{option_list}
 use Rattle.ydeclarations.specs.Elaboration.{said_of}
 use Rattle.ydeclarations.specs.Outline.{listed_view}
 use Rattle.ydeclarations.specs.Owned.{GivesWrong, HasFirst, IsFirstWrong, IsFit, fit_or_0, keep}

@@ -8,7 +8,8 @@ use Rattle.ydeclarations.specs.declared.mistake.Mistake.TheVariants.{BadStart, U
 use Rattle.ydeclarations.specs.declared.mistake.Mistake.TheVariants.{BadPrec}
 use Rattle.ydeclarations.specs.declared.mistake.Mistake.TheVariants.{Limit}
 use Rattle.ydeclarations.specs.Elaboration.{Rule, bare_of, is_nonterminal, is_token, lefts}
-use Rattle.ydeclarations.specs.Elaboration.{numbers_given, own_numbers, precedences_given, precs, rules}
+use Rattle.ydeclarations.specs.Elaboration.{numbers_given, own_numbers, precedences_given, precs}
+use Rattle.ydeclarations.specs.Elaboration.{rules}
 use Rattle.ydeclarations.specs.Elaboration.{starts, symbols, tokens, types_of, uses}
 use Rattle.ysymbols.specs.Forms.{Productive}
 use Rattle.ysymbols.specs.Grammar.{greatest_number, longest_body, most_rules, most_symbols}

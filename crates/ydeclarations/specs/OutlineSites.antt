@@ -1,5 +1,6 @@
 -- The lists of a file, with the places of what stands in them.
-use Rattle.std.specs.Prelude.{ℕ, ◌≡◌, Bool, true, false, List, [], ◌∷◌, ◌++◌, map, Option, Some, None}
+use Rattle.std.specs.Prelude.{ℕ, ◌≡◌, Bool, true, false, List, [], ◌∷◌, ◌++◌, map, Option, Some}
+use Rattle.std.specs.Prelude.{None}
 use Rattle.std.specs.Prelude.{Result, IfErr}
 use Rattle.std.specs.List.{flat_map, AllByRecursion}
 use Rattle.ydeclarations.specs.declared.mistake.Refused.{Refused}

@@ -8,7 +8,8 @@ use Rattle.ydeclarations.specs.declared.mistake.Mistake.TheVariants as mistakes
 use Rattle.ydeclarations.specs.declared.mistake.Refused.{Refused}
 use Rattle.ydeclarations.specs.declared.mistake.Refused.TheVariants as refused
 use Rattle.ysymbols.specs.declared.precedence.Precedence.{Precedence}
-use Rattle.ydeclarations.specs.Elaboration.{Listing, first_or, said_of, digits_number, token_precedences}
+use Rattle.ydeclarations.specs.Elaboration.{Listing, first_or, said_of, digits_number}
+use Rattle.ydeclarations.specs.Elaboration.{token_precedences}
 use Rattle.ydeclarations.specs.Mistakes.{Holds}
 use Rattle.ysyntax.specs.Tree.{Tree}
 use Rattle.ysymbols.specs.Grammar.{greatest_number, number_bound}

@@ -8,8 +8,10 @@ use Rattle.ydeclarations.specs.declared.mistake.Mistake.TheVariants.{TwicePreced
 use Rattle.ydeclarations.specs.declared.mistake.Mistake.TheVariants.{BadStart, Unproductive}
 use Rattle.ydeclarations.specs.declared.mistake.Mistake.TheVariants.{BadPrec}
 use Rattle.ydeclarations.specs.declared.mistake.Mistake.TheVariants.{Limit}
-use Rattle.ydeclarations.specs.Elaboration.{bare_of, digits_number, Listing, gives_of, is_nonterminal}
-use Rattle.ydeclarations.specs.Elaboration.{is_token, listed_name, listings, option_list, own_number}
+use Rattle.ydeclarations.specs.Elaboration.{bare_of, digits_number, Listing, gives_of}
+use Rattle.ydeclarations.specs.Elaboration.{is_nonterminal}
+use Rattle.ydeclarations.specs.Elaboration.{is_token, listed_name, listings, option_list}
+use Rattle.ydeclarations.specs.Elaboration.{own_number}
 use Rattle.ydeclarations.specs.Elaboration.{said_of, symbols}
 use Rattle.ydeclarations.specs.Printed.{printed_name}
 use Rattle.ysymbols.specs.Forms.{Productive}

@@ -1,11 +1,13 @@
 //! What the listings give to the tokens: precedences and numbers, by the number of the token.
 
 ghost use Rattle.std.specs.Prelude.{◌≡◌, ◌<◌, ◌≤◌, ◌++◌, ◌∷◌, ℕ, List, Option, None, map};
-ghost use Rattle.std.specs.Prelude.{[], ◌&&◌, ◌||◌, IfErr, IfOk, IfSome, MatchOption, Some, is_some, not};
+ghost use Rattle.std.specs.Prelude.{[], ◌&&◌, ◌||◌, IfErr, IfOk, IfSome, MatchOption, Some};
+ghost use Rattle.std.specs.Prelude.{is_some, not};
 ghost use Rattle.std.specs.Prelude.{if◌then◌else◌, length, slice_index_or, unwrap_or};
 ghost use Rattle.std.specs.Char.{digit_value};
 ghost use Rattle.std.specs.Str.Parse.{digits_value};
-ghost use Rattle.ydeclarations.specs.Elaboration.{literal_value, tokens as tokens_of_tree, usual_of};
+ghost use Rattle.ydeclarations.specs.Elaboration.{literal_value, tokens as tokens_of_tree};
+ghost use Rattle.ydeclarations.specs.Elaboration.{usual_of};
 ghost use Rattle.ysymbols.specs.Grammar.{number_bound};
 ghost use Rattle.ysymbols.specs.Names.{Name};
 ghost use Rattle.ydeclarations.specs.Owned.{AllSmall, HasFirst, IsFirstWrong, IsFit, OwnSoFar};

@@ -9,7 +9,8 @@ use Rattle.ysyntax.specs.Lexer.{Refusal}
 use Rattle.ysyntax.specs.Placing.{too_long}
 use Rattle.ydeclarations.specs.declared.mistake.Mistake.{Mistake}
 use Rattle.ygrammar.specs.GrammarOf.{AnswersGrammar, AnswersMistake, AnswersRefusal, HasLine}
-use Rattle.ygrammar.specs.GrammarOf.{IsFaultAt, IsGrammarOf, IsMistaken, IsRefused, line_in, unplaced}
+use Rattle.ygrammar.specs.GrammarOf.{IsFaultAt, IsGrammarOf, IsMistaken, IsRefused, line_in}
+use Rattle.ygrammar.specs.GrammarOf.{unplaced}
 use Rattle.ylalr.specs.Collection.{IsFault}
 use Rattle.ylalr.specs.declared.fault.BuildFault.{BuildFault}
 use Rattle.ylalr.specs.declared.fault.BuildFault.TheVariants as building

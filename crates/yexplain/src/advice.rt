@@ -6,7 +6,7 @@ use crate::reads::{action_of, conflict_of, level_of};
 use crate::rivals::{Kinds, Rivals, around};
 use crate::supposed::{BOTTOM, TOP, place_of};
 use ylalr::END;
-use yreasons::Candidate;
+use yprovenance::Candidate;
 use ysymbols::{Associativity, Sym};
 use ytables::{Action, Class, Standing};
 

@@ -4,7 +4,7 @@ ghost use Rattle.std.specs.Iterator.{at_most};
 
 use std::alloc::{AllocError, Global};
 use ylalr::{Automaton, Item};
-use yreasons::{Candidate, Place, Reason, Reasons, candidate_at, leading, next_rule, shift_at};
+use yprovenance::{Candidate, Place, Reason, Reasons, candidate_at, leading, next_rule, shift_at};
 use ysymbols::{Grammar, Precedence, Rule, Sym};
 use ytables::{Action, Conflict, Tables, is_ready, next_symbol};
 

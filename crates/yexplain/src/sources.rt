@@ -6,7 +6,7 @@ use crate::text::{ItemText, Numbered};
 use std::alloc::Global;
 use std::io::{self, Write};
 use ylalr::Item;
-use yreasons::{Cause, Place, Reason, Reasons};
+use yprovenance::{Cause, Place, Reason, Reasons};
 
 /// The most rules of a cell whose chains are made.
 const MOST_RULES: usize = 3;

@@ -3,7 +3,7 @@
 use crate::lines::Lines;
 use crate::question::Question;
 use crate::reads::{level_of, rule_of};
-use yreasons::{Rival, settle};
+use yprovenance::{Rival, settle};
 use ysymbols::{Associativity, Grammar, Precedence, Sym};
 use ytables::{Action, Cell, Standing, standing_between};
 

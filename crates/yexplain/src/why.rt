@@ -7,7 +7,7 @@ use crate::rivals::Rivals;
 use crate::text::{ItemText, Name, Numbered, RuleText};
 use std::io::{self, Write};
 use ylalr::{END, Item};
-use yreasons::Candidate;
+use yprovenance::Candidate;
 use ysymbols::Associativity;
 use ytables::{Action, Standing};
 

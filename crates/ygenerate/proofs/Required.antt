@@ -1,6 +1,7 @@
 -- Command lines whose required arguments are given.
 use Rattle.std.proofs.Common.{zero, suc, ◌≡◌, ◌<◌, ℕ, Bool, not, ◌||◌, true, false, List, [], ◌∷◌}
-use Rattle.std.proofs.Common.{true≢false, length, codes, is_some, subst, ap, ap₂, refl, sym, inl, inr}
+use Rattle.std.proofs.Common.{true≢false, length, codes, is_some, subst, ap, ap₂, refl, sym, inl}
+use Rattle.std.proofs.Common.{inr}
 use Rattle.std.proofs.Common.{◌∙◌, arith}
 use Rattle.std.specs.List.{All, list_any, slice_index_or}
 use Rattle.std.specs.Str.{bytes_eq}

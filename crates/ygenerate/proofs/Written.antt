@@ -1,5 +1,6 @@
 -- What a device took of a text that was written through a buffer.
-use Rattle.std.proofs.Common.{ℕ, ◌≡◌, ◌++◌, ◌∙◌, Bool, true, false, not, List, [], Option, Some, None}
+use Rattle.std.proofs.Common.{ℕ, ◌≡◌, ◌++◌, ◌∙◌, Bool, true, false, not, List, [], Option, Some}
+use Rattle.std.proofs.Common.{None}
 use Rattle.std.proofs.Common.{ap, refl, sym, append_assoc, append-nil}
 use Rattle.std.specs.Io.KnownBytes.{Keeps, append_known}
 use Rattle.ylink.specs.Sends.{Grows}

@@ -8,7 +8,8 @@ ghost use Rattle.clap.specs.Words.{App, FailsBy, IsParsedFrom, app_of, fault_of,
 ghost use Rattle.clap.specs.Words.{is_simple, is_simple_and_free};
 ghost use Rattle.clap.specs.declared.error.kind.ErrorKind.TheVariants.{OutOfMemory};
 ghost use Rattle.clap.specs.declared.parser.matches.ArgMatches.{ArgMatches};
-ghost use Rattle.ygenerate.specs.Arguments.{ystep_app, yacc_app, ArePathsIn, AreYaccWordsIn, HasBoth};
+ghost use Rattle.ygenerate.specs.Arguments.{ystep_app, yacc_app, ArePathsIn, AreYaccWordsIn};
+ghost use Rattle.ygenerate.specs.Arguments.{HasBoth};
 ghost use Rattle.ygenerate.specs.Arguments.{HasGrammar, IsArgument, IsNewCommand, ReadsAs};
 ghost use Rattle.ygenerate.specs.Arguments.{required_argument, short_flag, short_option};
 

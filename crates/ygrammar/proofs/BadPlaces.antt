@@ -12,7 +12,8 @@ use Rattle.std.proofs.lemmas.Option.{get_or_from_slice_get, slice_get_within}
 use Rattle.ydeclarations.specs.declared.mistake.Mistake.TheVariants as mistakes
 use Rattle.ydeclarations.specs.declared.outline.Listed.{Listed}
 use Rattle.ydeclarations.specs.declared.outline.Outline.{Outline}
-use Rattle.ydeclarations.specs.Elaboration.{Listing, appearances, digits_number, first_or, listed_name}
+use Rattle.ydeclarations.specs.Elaboration.{Listing, appearances, digits_number, first_or}
+use Rattle.ydeclarations.specs.Elaboration.{listed_name}
 use Rattle.ydeclarations.specs.Elaboration.{listings, option_list, own_number, said_of, tokens}
 use Rattle.ydeclarations.specs.Elaboration.{usual_of}
 use Rattle.ydeclarations.specs.Outline.{listed_view}

@@ -10,7 +10,8 @@ use Rattle.ydeclarations.specs.declared.mistake.Mistake.TheVariants.{BadPrec, Ba
 use Rattle.ydeclarations.specs.declared.mistake.Mistake.TheVariants.{TokenLeft}
 use Rattle.ydeclarations.specs.declared.mistake.Mistake.TheVariants.{Undefined}
 use Rattle.ydeclarations.specs.Elaboration.{Rule, is_nonterminal, is_token, lefts, precs, rule_left}
-use Rattle.ydeclarations.specs.Elaboration.{rules, starts, symbols, token_precedences, tokens, types_of}
+use Rattle.ydeclarations.specs.Elaboration.{rules, starts, symbols, token_precedences, tokens}
+use Rattle.ydeclarations.specs.Elaboration.{types_of}
 use Rattle.ydeclarations.specs.Elaboration.{uses}
 use Rattle.ysymbols.specs.Grammar.{RuleValue, longest_body, most_rules, most_symbols}
 use Rattle.ydeclarations.specs.Mistakes.{Holds}

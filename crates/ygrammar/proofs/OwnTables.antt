@@ -5,7 +5,8 @@ use Rattle.std.proofs.Common.{subst, arith, get_or, false, is_some, true}
 use Rattle.std.specs.List.{Contains, flat_map}
 use Rattle.std.proofs.lemmas.Option.{get_or_from_slice_get}
 use Rattle.ydeclarations.specs.declared.mistake.Mistake.TheVariants as mistakes
-use Rattle.ydeclarations.specs.Elaboration.{Listing, appearances, identifiers_of, uses, digits_number}
+use Rattle.ydeclarations.specs.Elaboration.{Listing, appearances, identifiers_of, uses}
+use Rattle.ydeclarations.specs.Elaboration.{digits_number}
 use Rattle.ydeclarations.specs.Elaboration.{first_or, listings, option_list, own_number}
 use Rattle.ydeclarations.specs.Elaboration.{own_numbers, said_of}
 use Rattle.ydeclarations.specs.Elaboration.{tokens}

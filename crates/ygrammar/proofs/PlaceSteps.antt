@@ -1,5 +1,6 @@
 -- Where the mistakes of a tree stand.
-use Rattle.std.proofs.Common.{ℕ, zero, suc, ◌≡◌, ◌<◌, ◌↔◌, arith, Bool, true, false, filter, not, List, [], ◌∷◌, ◌++◌, length, map}
+use Rattle.std.proofs.Common.{ℕ, zero, suc, ◌≡◌, ◌<◌, ◌↔◌, arith, Bool, true, false, filter, not}
+use Rattle.std.proofs.Common.{List, [], ◌∷◌, ◌++◌, length, map}
 use Rattle.std.proofs.Common.{Option, Some, None, refl, sym, ap, subst, ◌∙◌, append-nil}
 use Rattle.std.proofs.Common.{Result, Ok, Err, IsErrAnd}
 use Rattle.std.specs.Prelude.{IfErr, slice_index_or, unwrap_or}
@@ -14,10 +15,12 @@ use Rattle.ydeclarations.specs.declared.mistake.Refused.{Refused}
 use Rattle.ydeclarations.specs.declared.mistake.Refused.TheVariants as refused
 use Rattle.ydeclarations.specs.declared.outline.Outline.{Outline}
 use Rattle.ydeclarations.specs.declared.outline.Started.{Started}
-use Rattle.ydeclarations.specs.Elaboration.{bare_of, is_nonterminal, is_token, lefts, symbols, tokens}
+use Rattle.ydeclarations.specs.Elaboration.{bare_of, is_nonterminal, is_token, lefts, symbols}
+use Rattle.ydeclarations.specs.Elaboration.{tokens}
 use Rattle.ydeclarations.specs.OutlineSites.{IsPlaced, OutlineSites, is_of_rule, left_of, name_at}
 use Rattle.ydeclarations.specs.OutlineSites.{prec_of, start_at, typed_of, use_of}
-use Rattle.ydeclarations.specs.Places.{AllAt, FirstAt, IsBarren, is_bad_prec, is_token_left, is_undefined}
+use Rattle.ydeclarations.specs.Places.{AllAt, FirstAt, IsBarren, is_bad_prec, is_token_left}
+use Rattle.ydeclarations.specs.Places.{is_undefined}
 use Rattle.ydeclarations.specs.Places.{last_start, select, start_of}
 use Rattle.ydeclarations.specs.Printed.{printed_name}
 use Rattle.ydeclarations.proofs.PlaceSteps.{all_map, first_behind, first_front, found_in, last_seen}

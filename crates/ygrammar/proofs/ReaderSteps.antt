@@ -1,5 +1,6 @@
 -- A file has one grammar or one fault.
-use Rattle.std.proofs.Common.{ℕ, ◌≡◌, ◌<◌, ◌≤◌, ◌⊎◌, inl, inr, List, [], Result, Ok, Err, refl, sym, ap}
+use Rattle.std.proofs.Common.{ℕ, ◌≡◌, ◌<◌, ◌≤◌, ◌⊎◌, inl, inr, List, [], Result, Ok, Err, refl, sym}
+use Rattle.std.proofs.Common.{ap}
 use Rattle.std.proofs.Common.{subst, arith, true, false, length, take, ◌++◌, ◌+◌, ◌∙◌}
 use Rattle.std.proofs.Common.{length-append}
 use Rattle.std.specs.Result.{IsErrOf}
@@ -27,7 +28,8 @@ use Rattle.ygrammar.specs.Elaborated.{IsFirstRefused}
 use Rattle.ygrammar.specs.Faults.{IsFaultIn, IsRefusal}
 use Rattle.ysymbols.specs.Grammar.{GrammarValue, longest_file}
 use Rattle.ygrammar.specs.GrammarOf.{AnswersGrammar, AnswersMistake, AnswersRefusal, HasTree}
-use Rattle.ygrammar.specs.GrammarOf.{HasLine, IsFaultAt, IsFaultOf, IsMistakeAt, IsMistakenAt, IsMistakenOn}
+use Rattle.ygrammar.specs.GrammarOf.{HasLine, IsFaultAt, IsFaultOf, IsMistakeAt, IsMistakenAt}
+use Rattle.ygrammar.specs.GrammarOf.{IsMistakenOn}
 use Rattle.ygrammar.specs.GrammarOf.{IsTextFault}
 use Rattle.ygrammar.specs.GrammarOf.{line_in, line_of}
 use Rattle.ygrammar.specs.GrammarOf.{mistake_at}

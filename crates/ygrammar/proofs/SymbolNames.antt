@@ -26,7 +26,8 @@ use Rattle.ydeclarations.specs.Elaboration.{is_token}
 use Rattle.ydeclarations.specs.Elaboration.{body_part_identifier, lefts, level_at, given_by}
 use Rattle.ydeclarations.specs.Elaboration.{left_of_rule}
 use Rattle.ydeclarations.specs.Elaboration.{listed_name, listing_of, listings, listings_from}
-use Rattle.ydeclarations.specs.Elaboration.{option_list, prec_of, type_names, types_of, uses_of, uses}
+use Rattle.ydeclarations.specs.Elaboration.{option_list, prec_of, type_names, types_of, uses_of}
+use Rattle.ydeclarations.specs.Elaboration.{uses}
 use Rattle.ydeclarations.specs.Elaboration.{who_of}
 use Rattle.ydeclarations.proofs.TellingSteps.{other_name}
 use Rattle.ysymbols.proofs.NameSteps.{false_true}

@@ -28,7 +28,8 @@ use Rattle.ydeclarations.specs.Elaboration.{identifiers_of}
 use Rattle.ydeclarations.specs.Elaboration.{final_of, inner_name, is_nonterminal, is_token}
 use Rattle.ydeclarations.specs.Elaboration.{body_part_identifier, lefts, listings, numbered_rule}
 use Rattle.ydeclarations.specs.Elaboration.{option_list}
-use Rattle.ydeclarations.specs.Elaboration.{or_else, prec_of, rule_left, rules, rules_from, split_last}
+use Rattle.ydeclarations.specs.Elaboration.{or_else, prec_of, rule_left, rules, rules_from}
+use Rattle.ydeclarations.specs.Elaboration.{split_last}
 use Rattle.ydeclarations.specs.Elaboration.{start_symbol, starts_of, starts, symbols, tokens}
 use Rattle.ydeclarations.specs.Elaboration.{token_names_of, uses_of, uses}
 use Rattle.ysymbols.proofs.NameSteps.{among_all, eq_self}

@@ -7,7 +7,8 @@ use Rattle.ydeclarations.specs.declared.mistake.Mistake.TheVariants.{TwicePreced
 use Rattle.ydeclarations.specs.declared.mistake.Mistake.TheVariants.{Unproductive}
 use Rattle.ydeclarations.specs.declared.mistake.Refused.{Refused}
 use Rattle.ydeclarations.specs.declared.mistake.Refused.TheVariants as refused
-use Rattle.ydeclarations.specs.Elaboration.{bare_of, lefts, rules, symbols, token_precedences, tokens}
+use Rattle.ydeclarations.specs.Elaboration.{bare_of, lefts, rules, symbols, token_precedences}
+use Rattle.ydeclarations.specs.Elaboration.{tokens}
 use Rattle.ysymbols.specs.Forms.{Productive}
 use Rattle.ysymbols.specs.Grammar.{ContextFree, GrammarValue, RuleValue}
 use Rattle.ysymbols.specs.Marking.{AreIn}

@@ -8,7 +8,8 @@ ghost use Rattle.ygrammar.specs.Elaborated.{AreNamed, AreNumbered, Decides, Elab
 ghost use Rattle.ygrammar.specs.Elaborated.{GivesNamed, IsFirstRefused, IsReady, ShowsBarren};
 ghost use Rattle.ydeclarations.specs.declared.mistake.Mistake.TheVariants.{BadStart, Undefined};
 ghost use Rattle.ydeclarations.specs.Mistakes.{Holds};
-ghost use Rattle.ydeclarations.specs.Elaboration.{symbols as symbols_of_tree, tokens as tokens_of_tree};
+ghost use Rattle.ydeclarations.specs.Elaboration.{symbols as symbols_of_tree};
+ghost use Rattle.ydeclarations.specs.Elaboration.{tokens as tokens_of_tree};
 ghost use Rattle.ydeclarations.specs.Elaboration.{bare_of, tokens_of};
 ghost use Rattle.ysymbols.specs.Marking.{AreIn, numbered_grammar};
 ghost use Rattle.ygrammar.specs.Numbered.{inner_after};

@@ -2,7 +2,8 @@
 //! of it.
 
 ghost use Rattle.std.specs.Prelude.{◌≡◌, ◌++◌, ◌∷◌, IfErr, List, length, map};
-ghost use Rattle.ydeclarations.specs.Elaboration.{rules as rules_of_tree, symbols as symbols_of_tree};
+ghost use Rattle.ydeclarations.specs.Elaboration.{rules as rules_of_tree};
+ghost use Rattle.ydeclarations.specs.Elaboration.{symbols as symbols_of_tree};
 ghost use Rattle.ydeclarations.specs.Elaboration.{token_precedences, tokens as tokens_of_tree};
 ghost use Rattle.ygrammar.specs.Numbered.{rule_numbers};
 ghost use Rattle.ydeclarations.specs.Outline.{Outlines};

@@ -1,7 +1,8 @@
 //! The tokens of a file by number.
 
 ghost use Rattle.std.specs.Prelude.{◌≡◌, ◌++◌, ◌∷◌, [], filter, map, codes, IfOk, OnOk};
-ghost use Rattle.ydeclarations.specs.Elaboration.{is_literal, listed_name, token_names_of, tokens_of};
+ghost use Rattle.ydeclarations.specs.Elaboration.{is_literal, listed_name, token_names_of};
+ghost use Rattle.ydeclarations.specs.Elaboration.{tokens_of};
 ghost use Rattle.ysymbols.specs.Names.{is_among, with_names};
 ghost use Rattle.ydeclarations.specs.Printed.{printed_name};
 ghost use Rattle.ydeclarations.specs.Outline.{listed_view};

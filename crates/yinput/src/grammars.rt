@@ -5,12 +5,12 @@ use std::alloc::Global;
 use std::io::{self, Write};
 use std::mem;
 use std::rt::Files;
-use ybison::import::{Dialect, Foreign, Read, open_grammar};
-use ybison::notes::Source;
 use yexplain::reads::{Made, body_of, grammar_of, set};
 use yfaults::opening::{Opened, grammar_bytes};
 use yfiles::diagnostic::Diagnostics;
 use yfiles::reading::unread;
+use yfrontend::import::{Dialect, Foreign, Read, open_grammar};
+use yfrontend::notes::Source;
 use ysymbols::Grammar;
 
 /// A grammar file.

@@ -7,8 +7,8 @@ use Rattle.ysymbols.specs.Grammar.{ContextFree, IsToken}
 use Rattle.ysymbols.specs.Forms.{First}
 use Rattle.ysymbols.specs.WellFormed.{WellFormed}
 use Rattle.ylalr.specs.Behind.{FormHas}
-use Rattle.yrows.specs.Marks.{Has}
-use Rattle.yrows.specs.Rows.{BitRows, Holds}
+use Rattle.ybitsets.specs.Marks.{Has}
+use Rattle.ybitsets.specs.Rows.{BitRows, Holds}
 use Rattle.ylalr.specs.First.{IsNullable, IsFirst}
 use Rattle.ylalr.proofs.Vanish.{more, nullable_from_vanishes}
 use Rattle.ylalr.proofs.Begins.{Begins, here, over, into, begins_append, begins_past, begins_split}

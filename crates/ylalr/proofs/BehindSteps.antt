@@ -5,10 +5,10 @@ use Rattle.std.proofs.Math.ListN.{set}
 use Rattle.std.proofs.lemmas.List.{length-replicate}
 use Rattle.std.specs.List.{All}
 use Rattle.ysymbols.specs.Grammar.{ContextFree}
-use Rattle.yrows.specs.Marks.{Has}
-use Rattle.yrows.specs.Rows.{BitRows, Holds, Grows, IsSized}
-use Rattle.yrows.proofs.Growth.{sized_then}
-use Rattle.yrows.proofs.MarkSteps.{kept_marked, marked_cases, none_marked}
+use Rattle.ybitsets.specs.Marks.{Has}
+use Rattle.ybitsets.specs.Rows.{BitRows, Holds, Grows, IsSized}
+use Rattle.ybitsets.proofs.Growth.{sized_then}
+use Rattle.ybitsets.proofs.MarkSteps.{kept_marked, marked_cases, none_marked}
 use Rattle.ysymbols.proofs.Numbers.{below_or_last}
 use Rattle.ylalr.specs.Behind.{FormHas, AddsAtMost, HasForm, rest_of, BehindTo}
 

@@ -12,9 +12,9 @@ use Rattle.ylalr.specs.declared.items.Item.{Item}
 use Rattle.ylalr.specs.declared.looks.Lr0.{Lr0}
 use Rattle.ylalr.specs.declared.looks.Here.{Here}
 use Rattle.ylalr.specs.Gotos.{goto_of}
-use Rattle.yrows.specs.Marks.{Has}
-use Rattle.yrows.specs.Rows.{BitRows, Holds, IsSized}
-use Rattle.yrows.specs.Links.{Link, Reaches, given, passed, IsSpread}
+use Rattle.ybitsets.specs.Marks.{Has}
+use Rattle.ybitsets.specs.Rows.{BitRows, Holds, IsSized}
+use Rattle.ybitsets.specs.Links.{Link, Reaches, given, passed, IsSpread}
 use Rattle.ylalr.specs.ItemRows.{At, Starts, Shares, rows_at}
 use Rattle.ylalr.specs.Sets.{step_of, Moves, IsAscending, Before}
 use Rattle.ylalr.specs.States.{GotoIs, set_at, start_item}
@@ -26,8 +26,8 @@ use Rattle.ylalr.specs.Draft.{Further, GivesForm, OpensAt, ShiftsAt, ServesAt, S
 use Rattle.ylalr.specs.Draft.{StartsDraft}
 use Rattle.ylalr.specs.Lr0.{FitLr0}
 use Rattle.ylalr.proofs.BeginsWith.{found_first, last_first, cases}
-use Rattle.yrows.proofs.Turn.{same_default}
-use Rattle.yrows.proofs.LinkSteps.{link_cases, links_push, no_link, are_links_none}
+use Rattle.ybitsets.proofs.Turn.{same_default}
+use Rattle.ybitsets.proofs.LinkSteps.{link_cases, links_push, no_link, are_links_none}
 use Rattle.ylalr.proofs.LookSteps.{some_spread, spread_token}
 use Rattle.ysymbols.proofs.Numbers.{below_or_last}
 

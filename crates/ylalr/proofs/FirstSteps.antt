@@ -10,9 +10,9 @@ use Rattle.ysymbols.specs.Forms.{First, MarksNullable, Nullable}
 use Rattle.ysymbols.specs.WellFormed.{WellFormed}
 use Rattle.ysymbols.proofs.DrainSteps.{marked_below}
 use Rattle.ylalr.specs.Behind.{FormHas}
-use Rattle.yrows.specs.Marks.{Has}
-use Rattle.yrows.specs.Rows.{BitRows, Holds}
-use Rattle.yrows.specs.Links.{Reaches, given, passed, IsSpread}
+use Rattle.ybitsets.specs.Marks.{Has}
+use Rattle.ybitsets.specs.Rows.{BitRows, Holds}
+use Rattle.ybitsets.specs.Links.{Reaches, given, passed, IsSpread}
 use Rattle.ylalr.specs.First.{IsNullable, IsFirst}
 use Rattle.ylalr.specs.Fronts.{AreFrontLinks, HasEach}
 use Rattle.ylalr.proofs.Vanish.{Vanishes, none, more, nullable_from_vanishes, vanishes_append}

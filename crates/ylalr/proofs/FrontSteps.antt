@@ -7,11 +7,11 @@ use Rattle.std.specs.List.{All}
 use Rattle.std.proofs.lemmas.List.Elements.{All-nil, All-cons, All-head, All-tail}
 use Rattle.ysymbols.specs.Grammar.{ContextFree, left_of, body_of}
 use Rattle.ylalr.specs.Fronts.{InFront, AddsFront, Leads, AreFrontLinks, HasEach}
-use Rattle.yrows.specs.Links.{Link, Reaches, given, passed, IsSpread}
-use Rattle.yrows.specs.Marks.{Has}
-use Rattle.yrows.specs.Rows.{BitRows, Holds}
+use Rattle.ybitsets.specs.Links.{Link, Reaches, given, passed, IsSpread}
+use Rattle.ybitsets.specs.Marks.{Has}
+use Rattle.ybitsets.specs.Rows.{BitRows, Holds}
 use Rattle.ylalr.specs.Sets.{FirstRule, itself, through}
-use Rattle.yrows.proofs.LinkSteps.{link_there, link_kept, link_cases, are_links_none, no_link}
+use Rattle.ybitsets.proofs.LinkSteps.{link_there, link_kept, link_cases, are_links_none, no_link}
 use Rattle.ysymbols.proofs.Numbers.{below_or_last}
 
 -- s stands at one of the first k places of x

@@ -6,10 +6,11 @@ use Rattle.std.proofs.Math.ListN.{set, length-set}
 use Rattle.ysymbols.specs.Grammar.{ContextFree, left_of, body_of}
 use Rattle.ysymbols.specs.WellFormed.{WellFormed}
 use Rattle.ylalr.specs.declared.items.Item.{Item}
-use Rattle.yrows.specs.Limits.{most_states}
+use Rattle.ybitsets.specs.Limits.{most_states}
 use Rattle.ylalr.specs.Sets.{Before, IsAscending, InRange}
 use Rattle.ylalr.specs.States.{StateLists, set_at, start_item}
-use Rattle.ylalr.specs.ItemRows.{ItemRows, At, Starts, Shares, AreRows, FillRows, AreLefts, TakesRow}
+use Rattle.ylalr.specs.ItemRows.{ItemRows, At, Starts, Shares, AreRows, FillRows, AreLefts}
+use Rattle.ylalr.specs.ItemRows.{TakesRow}
 use Rattle.ylalr.specs.ItemRows.{AreItemRows, HasTwin, TakesOne}
 use Rattle.ylalr.proofs.StateSteps.{push_old, push_new, push_length}
 use Rattle.ysymbols.proofs.Numbers.{below_or_last}

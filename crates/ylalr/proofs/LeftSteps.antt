@@ -6,7 +6,7 @@ use Rattle.std.proofs.Math.ListN.{set, length-set}
 use Rattle.ysymbols.specs.Grammar.{ContextFree, left_of}
 use Rattle.ylalr.specs.declared.items.Item.{Item}
 use Rattle.ylalr.specs.ItemRows.{At, Starts, AreRows, AreLefts}
-use Rattle.yrows.proofs.Turn.{same_default}
+use Rattle.ybitsets.proofs.Turn.{same_default}
 use Rattle.std.proofs.Math.Nat.{eq-zero-or-pos}
 use Rattle.ysymbols.proofs.Numbers.{below_or_last}
 use Rattle.std.proofs.lemmas.Bool.{cases_eq}

@@ -8,8 +8,8 @@ use Rattle.std.proofs.lemmas.List.Elements.{Contains-push_cases, Contains-append
 use Rattle.std.proofs.lemmas.List.Quantifiers.{all_pairs_push}
 use Rattle.ysymbols.specs.Grammar.{ContextFree, body_of}
 use Rattle.ylalr.specs.declared.items.Item.{Item}
-use Rattle.yrows.specs.Rows.{BitRows, Holds, AddsFrom}
-use Rattle.yrows.proofs.Turn.{same_default}
+use Rattle.ybitsets.specs.Rows.{BitRows, Holds, AddsFrom}
+use Rattle.ybitsets.proofs.Turn.{same_default}
 use Rattle.ylalr.specs.Sets.{Before, IsAscending, InRange, ItemsOf, Closure, given, IsClosure}
 use Rattle.ylalr.specs.Sets.{LeadsTo, FirstRule}
 use Rattle.ylalr.proofs.ClosureSteps.{closed_cases, closed_from_opened}

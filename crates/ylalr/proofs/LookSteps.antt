@@ -6,7 +6,7 @@ use Rattle.std.proofs.lemmas.List.Elements.{All-head, All-drop}
 use Rattle.ysymbols.specs.Grammar.{ContextFree, body_of, IsToken, end_token}
 use Rattle.ysymbols.specs.WellFormed.{WellFormed}
 use Rattle.ylalr.specs.declared.items.Item.{Item}
-use Rattle.yrows.specs.Rows.{BitRows, Holds}
+use Rattle.ybitsets.specs.Rows.{BitRows, Holds}
 use Rattle.ylalr.specs.Items.{Valid, start, closure, move, IsCore, Lookahead}
 use Rattle.ylalr.specs.Sets.{moved, IsClosure}
 use Rattle.ylalr.specs.States.{StateLists, set_at, AreStates, GotoIs}

@@ -5,7 +5,7 @@ use Rattle.std.specs.List.{Contains}
 use Rattle.ysymbols.specs.Grammar.{ContextFree}
 use Rattle.ysymbols.specs.WellFormed.{WellFormed}
 use Rattle.ylalr.specs.declared.items.Item.{Item}
-use Rattle.yrows.specs.Limits.{most_states}
+use Rattle.ybitsets.specs.Limits.{most_states}
 use Rattle.ylalr.specs.Sets.{IsClosure, IsAscending, InRange}
 use Rattle.ylalr.specs.States.{StateLists, set_at, start_item, IsState, AreStates, Extends, MayJoin}
 use Rattle.ylalr.specs.States.{with_state, IsFresh, Overflows}

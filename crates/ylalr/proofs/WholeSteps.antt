@@ -11,7 +11,7 @@ use Rattle.ysymbols.specs.WellFormed.{WellFormed}
 use Rattle.ylalr.specs.declared.items.Item.{Item}
 use Rattle.ylalr.specs.declared.gotos.Goto.{Goto}
 use Rattle.ylalr.specs.Gotos.{goto_of}
-use Rattle.yrows.specs.Rows.{BitRows, Holds, word_of}
+use Rattle.ybitsets.specs.Rows.{BitRows, Holds, word_of}
 use Rattle.ylalr.specs.Items.{Lookahead}
 use Rattle.ylalr.specs.Sets.{given, IsClosure}
 use Rattle.ylalr.specs.States.{StateLists, set_at, start_item, AreStates, IsState, GotoIs}
@@ -19,7 +19,7 @@ use Rattle.ylalr.specs.States.{Overflows, RowsAre}
 use Rattle.ylalr.specs.Looks.{SoundLooks, ClosedLooks}
 use Rattle.ylalr.specs.ItemRows.{ItemRows, IsRowOf, rows_at}
 use Rattle.ylalr.specs.Collection.{HasStates, IsGoto, Guide, IsGuide, TooMany}
-use Rattle.yrows.specs.Limits.{most_states}
+use Rattle.ybitsets.specs.Limits.{most_states}
 use Rattle.ylalr.proofs.Cores.{every, once, core_start, core_goto, source_item}
 use Rattle.ylalr.proofs.LookSteps.{looks_exact, looks_none}
 use Rattle.std.proofs.lemmas.Bool.{or_cases}

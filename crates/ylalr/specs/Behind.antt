@@ -3,8 +3,8 @@ use Rattle.std.specs.Prelude.{ℕ, Bool, List, ◌≡◌, ◌<◌, ◌⊎◌, �
 use Rattle.std.specs.Prelude.{slice_index}
 use Rattle.ysymbols.specs.Grammar.{ContextFree, body_of}
 use Rattle.ylalr.specs.declared.behind.Behind.{Behind}
-use Rattle.yrows.specs.Marks.{Has}
-use Rattle.yrows.specs.Rows.{BitRows, Holds, IsSized}
+use Rattle.ybitsets.specs.Marks.{Has}
+use Rattle.ybitsets.specs.Rows.{BitRows, Holds, IsSized}
 
 -- some symbol of the form has the token in its row, and all before it vanish
 pub record FormHas (n : List Bool) (m : BitRows) (x : List ℕ) (t : ℕ) : Type 0 where

@@ -6,7 +6,7 @@ use Rattle.ysymbols.specs.Grammar.{ContextFree, GrammarValue}
 use Rattle.ylalr.specs.declared.items.Item.{Item}
 use Rattle.ylalr.specs.declared.gotos.Goto.{Goto}
 use Rattle.ylalr.specs.Gotos.{goto_of, IsAscendingRow, IsFound, IsRowBelow}
-use Rattle.yrows.specs.Limits.{most_states}
+use Rattle.ybitsets.specs.Limits.{most_states}
 use Rattle.ylalr.specs.declared.fault.BuildFault.{BuildFault}
 use Rattle.ylalr.specs.Items.{InCore, IsCore, Lookahead}
 use Rattle.ylalr.specs.Sets.{IsAscending, InRange}

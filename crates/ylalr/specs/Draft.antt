@@ -6,9 +6,9 @@ use Rattle.ylalr.specs.declared.items.Item.{Item}
 use Rattle.ylalr.specs.declared.looks.Lr0.{Lr0}
 use Rattle.ylalr.specs.declared.looks.Here.{Here}
 use Rattle.ylalr.specs.Gotos.{goto_of}
-use Rattle.yrows.specs.Marks.{Has}
-use Rattle.yrows.specs.Rows.{BitRows, Holds, Grows, IsSized}
-use Rattle.yrows.specs.Links.{AreLinks, Link}
+use Rattle.ybitsets.specs.Marks.{Has}
+use Rattle.ybitsets.specs.Rows.{BitRows, Holds, Grows, IsSized}
+use Rattle.ybitsets.specs.Links.{AreLinks, Link}
 use Rattle.ylalr.specs.ItemRows.{AreLefts, IsRowOf, rows_at}
 use Rattle.ylalr.specs.Sets.{Moves, step_of}
 use Rattle.ylalr.specs.States.{set_at}

@@ -2,8 +2,8 @@
 use Rattle.std.specs.Prelude.{ℕ, Bool, List, [], ◌∷◌, ◌↔◌}
 use Rattle.ysymbols.specs.Grammar.{ContextFree}
 use Rattle.ysymbols.specs.Forms.{Nullable, First}
-use Rattle.yrows.specs.Marks.{Has}
-use Rattle.yrows.specs.Rows.{BitRows, Holds}
+use Rattle.ybitsets.specs.Marks.{Has}
+use Rattle.ybitsets.specs.Rows.{BitRows, Holds}
 
 -- the marked symbols are those that derive the empty form
 abbrev pub IsNullable : ContextFree → List Bool → Type 0

@@ -2,9 +2,9 @@
 -- to left sides.
 use Rattle.std.specs.Prelude.{ℕ, Bool, List, ◌≡◌, ◌<◌, ◌⊎◌, ◌↔◌, length, All, take, slice_index}
 use Rattle.ysymbols.specs.Grammar.{ContextFree, left_of, body_of}
-use Rattle.yrows.specs.Links.{AreLinks, Link}
-use Rattle.yrows.specs.Marks.{Has}
-use Rattle.yrows.specs.Rows.{BitRows, Holds}
+use Rattle.ybitsets.specs.Links.{AreLinks, Link}
+use Rattle.ybitsets.specs.Marks.{Has}
+use Rattle.ybitsets.specs.Rows.{BitRows, Holds}
 
 -- s stands in the form, and all symbols before it are marked
 pub record InFront (n : List Bool) (x : List ℕ) (s : ℕ) : Type 0 where

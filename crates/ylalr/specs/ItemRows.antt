@@ -4,8 +4,8 @@ use Rattle.std.specs.Prelude.{ℕ, ◌≡◌, ◌<◌, ◌≤◌, ◌+◌, ◌�
 use Rattle.std.specs.Prelude.{slice_set, take, Option, Some, None, MatchOption}
 use Rattle.ysymbols.specs.Grammar.{ContextFree, left_of, body_of}
 use Rattle.ylalr.specs.declared.items.Item.{Item}
-use Rattle.yrows.specs.Rows.{BitRows, Holds, IsSized}
-use Rattle.yrows.specs.Limits.{most_rows}
+use Rattle.ybitsets.specs.Rows.{BitRows, Holds, IsSized}
+use Rattle.ybitsets.specs.Limits.{most_rows}
 use Rattle.ylalr.specs.States.{StateLists, set_at}
 
 -- the rows of the items of each state, and how many rows there are

@@ -8,8 +8,8 @@ use Rattle.ysymbols.specs.WellFormed.{WellFormed}
 use Rattle.ylalr.specs.declared.items.Item.{Item}
 use Rattle.ylalr.specs.declared.behind.Behind.{Behind}
 use Rattle.ylalr.specs.declared.gotos.Goto.{Goto}
-use Rattle.yrows.specs.Limits.{most_states}
-use Rattle.yrows.specs.Rows.{BitRows, Holds, IsSized}
+use Rattle.ybitsets.specs.Limits.{most_states}
+use Rattle.ybitsets.specs.Rows.{BitRows, Holds, IsSized}
 use Rattle.ylalr.specs.Behind.{IsBehind}
 use Rattle.ylalr.specs.First.{IsNullable, IsFirst}
 use Rattle.ylalr.specs.Sets.{step_of}

@@ -1,7 +1,7 @@
 -- What holds of the LR(0) automaton that the lookaheads are made from, and of the whole automaton.
 use Rattle.ylalr.specs.declared.looks.Lr0.{Lr0}
 use Rattle.ylalr.specs.Collection.{Collection}
-use Rattle.yrows.specs.Rows.{BitRows, IsSized}
+use Rattle.ybitsets.specs.Rows.{BitRows, IsSized}
 use Rattle.ylalr.specs.Gotos.{goto_of}
 use Rattle.ylalr.specs.Looks.{Fit, SoundLooks, ClosedLooks}
 

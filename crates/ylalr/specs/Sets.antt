@@ -4,7 +4,7 @@ use Rattle.std.specs.Prelude.{slice_index_or, drop, All, AllPairs}
 use Rattle.std.specs.List.{Contains}
 use Rattle.ysymbols.specs.Grammar.{ContextFree, left_of, body_of, end_token, longest_body}
 use Rattle.ylalr.specs.declared.items.Item.{Item}
-use Rattle.yrows.specs.Rows.{BitRows, Holds, IsSized}
+use Rattle.ybitsets.specs.Rows.{BitRows, Holds, IsSized}
 
 -- the items that a set of items leads to at one prefix
 pub data Closure (g : ContextFree) (K : ℕ → ℕ → Type 0) : ℕ → ℕ → Type 0 where

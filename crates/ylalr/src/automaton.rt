@@ -6,7 +6,7 @@ ghost use Rattle.ysymbols.specs.Forms.{Nullable, First};
 ghost use Rattle.ylalr.specs.Items.{Lookahead, IsNextLook};
 ghost use Rattle.ylalr.specs.Collection.{Collection, HasStates, IsGoto, goto_in, Guide, IsGuide};
 ghost use Rattle.ylalr.specs.Collection.{TooMany, bare_of, state_of};
-ghost use Rattle.yrows.specs.Limits.{most_states};
+ghost use Rattle.ybitsets.specs.Limits.{most_states};
 ghost use Rattle.ylalr.specs.Lr0.{FitLr0};
 ghost use Rattle.ylalr.specs.declared.fault.BuildFault.{BuildFault};
 
@@ -19,7 +19,7 @@ use crate::items::Item;
 use crate::looks::{Lr0, all_looks, has_look, next_in_row};
 use std::alloc::Global;
 use std::marker::Model;
-use yrows::rows::Rows;
+use ybitsets::rows::Rows;
 use ysymbols::{Grammar, Sym, let_go};
 
 /// A grammar with its canonical collection of sets of items and their merged lookaheads.

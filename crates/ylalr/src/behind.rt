@@ -2,14 +2,14 @@
 //! body. Each state that has the rule with the dot at 0 asks for that.
 
 ghost use Rattle.std.specs.Prelude.{◌≡◌, ◌<◌, ◌≤◌, ◌↔◌, length, All, IfOk, IsTrue};
-ghost use Rattle.yrows.specs.Marks.{Has};
-ghost use Rattle.yrows.specs.Rows.{Grows, IsSized};
+ghost use Rattle.ybitsets.specs.Marks.{Has};
+ghost use Rattle.ybitsets.specs.Rows.{Grows, IsSized};
 ghost use Rattle.ylalr.specs.Behind.{AddsAtMost, HasForm, IsBehind, rest_of};
 
 use crate::tokens::token_count;
 use std::alloc::{AllocError, Global};
-use yrows::marks::Marks;
-use yrows::rows::Rows;
+use ybitsets::marks::Marks;
+use ybitsets::rows::Rows;
 use ysymbols::{Grammar, Sym, let_go};
 
 /// What stands behind the first symbol of the body of each rule.

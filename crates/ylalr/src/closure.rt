@@ -2,14 +2,14 @@
 
 ghost use Rattle.std.specs.Prelude.{◌≡◌, ◌<◌, ◌≤◌, ◌+◌, ◌^◌, All, OnOk, IfOk};
 ghost use Rattle.ysymbols.specs.Grammar.{most_rules};
-ghost use Rattle.yrows.specs.Rows.{IsSized};
+ghost use Rattle.ybitsets.specs.Rows.{IsSized};
 ghost use Rattle.ylalr.specs.Sets.{AreFirstRules, HasRules, Wants, IsClosure, IsAscending, InRange};
 ghost use Rattle.ylalr.specs.Sets.{AddsFirst, IsMerged};
 
 use crate::items::{Item, symbol_after};
 use std::alloc::{AllocError, Global};
-use yrows::list::Sequence;
-use yrows::rows::Rows;
+use ybitsets::list::Sequence;
+use ybitsets::rows::Rows;
 use ysymbols::Grammar;
 
 /// Sets the row of the rules that the kernel's items lead to.

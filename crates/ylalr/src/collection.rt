@@ -16,8 +16,8 @@ use crate::gotos::{Goto, Gotos};
 use crate::items::Item;
 use crate::states::{MOST_STATES, States};
 use std::alloc::{AllocError, Global};
-use yrows::list::Sequence;
-use yrows::rows::Rows;
+use ybitsets::list::Sequence;
+use ybitsets::rows::Rows;
 use ysymbols::Grammar;
 
 /// The states so far, and what finds more.

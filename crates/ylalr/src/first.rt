@@ -4,14 +4,14 @@
 ghost use Rattle.std.specs.Prelude.{◌≡◌, length, IfOk};
 ghost use Rattle.ylalr.specs.First.{IsNullable, IsFirst};
 ghost use Rattle.ylalr.specs.Fronts.{HasEach};
-ghost use Rattle.yrows.specs.Rows.{IsSized};
+ghost use Rattle.ybitsets.specs.Rows.{IsSized};
 
 use crate::fronts::front_links;
 use crate::tokens::token_count;
 use std::alloc::{AllocError, Global};
-use yrows::marks::Marks;
-use yrows::rows::Rows;
-use yrows::spread::spread;
+use ybitsets::marks::Marks;
+use ybitsets::rows::Rows;
+use ybitsets::spread::spread;
 use ysymbols::Grammar;
 
 /// The symbols that derive the empty form. It fails only when memory runs out.

@@ -8,9 +8,9 @@ ghost use Rattle.ylalr.specs.Sets.{AreFirstRules, HasRules};
 
 use crate::fronts::front_links;
 use std::alloc::{AllocError, Global};
-use yrows::marks::Marks;
-use yrows::rows::Rows;
-use yrows::spread::spread;
+use ybitsets::marks::Marks;
+use ybitsets::rows::Rows;
+use ybitsets::spread::spread;
 use ysymbols::Grammar;
 
 /// Rows in which each left side has its own rules.

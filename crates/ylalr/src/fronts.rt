@@ -4,8 +4,8 @@ ghost use Rattle.std.specs.Prelude.{◌≡◌, ◌<◌, length, All, IfOk, OnOk}
 ghost use Rattle.ylalr.specs.Fronts.{AddsFront, AreFrontLinks};
 
 use std::alloc::{AllocError, Global};
-use yrows::links::Links;
-use yrows::marks::Marks;
+use ybitsets::links::Links;
+use ybitsets::marks::Marks;
 use ysymbols::{Grammar, Sym};
 
 /// Links to `to` from each symbol of a form, up to the first one that isn't marked. It fails only

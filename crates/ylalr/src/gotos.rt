@@ -5,7 +5,7 @@ ghost use Rattle.ylalr.specs.Gotos.{lookup, goto_of, IsAscendingRow};
 
 use std::alloc::{AllocError, Global};
 use std::marker::Model;
-use yrows::list::Sequence;
+use ybitsets::list::Sequence;
 use ysymbols::Sym;
 
 /// A goto of a state.

@@ -3,7 +3,7 @@
 //! near each other. Every other item has its own.
 
 ghost use Rattle.std.specs.Prelude.{◌≡◌, ◌<◌, ◌≤◌, ◌+◌, ◌^◌, length, IfOk, OnOk, IsTrue, IfSome};
-ghost use Rattle.yrows.specs.Limits.{most_states};
+ghost use Rattle.ybitsets.specs.Limits.{most_states};
 ghost use Rattle.ylalr.specs.ItemRows.{AreItemRows, FillRows, rows_at, IsItemRow, Shares, HasTwin};
 ghost use Rattle.ylalr.specs.ItemRows.{TakesOne};
 ghost use Rattle.ylalr.specs.Sets.{InRange, IsWithin, IsAscending};
@@ -14,7 +14,7 @@ use crate::lefts::Lefts;
 use crate::states::States;
 use std::alloc::{AllocError, Global};
 use std::marker::Model;
-use yrows::list::Sequence;
+use ybitsets::list::Sequence;
 use ysymbols::Grammar;
 
 /// The rows of the items of each state, and how many rows there are.

@@ -10,7 +10,7 @@ ghost use Rattle.ylalr.specs.Sets.{InRange};
 use crate::items::Item;
 use std::alloc::{AllocError, Global};
 use std::marker::Model;
-use yrows::rows::Rows;
+use ybitsets::rows::Rows;
 use ysymbols::{Grammar, Sym, let_go};
 
 /// For each symbol, the row of the items that it is the left side of; and a row of bits with the

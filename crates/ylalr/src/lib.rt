@@ -8,7 +8,7 @@
 //! symbol after the dot (`buckets`), are the kernels of its gotos, and each state has a list of its
 //! gotos by symbol (`gotos`).
 //!
-//! What one row passes on to another stands in rows of bits with links between them (`yrows`):
+//! What one row passes on to another stands in rows of bits with links between them (`ybitsets`):
 //! rows give along their links until none grows. A row that grew waits, at most once, until its
 //! turn in a round; at first all wait, most in front of those to which they lead. So left sides
 //! get the first tokens and the first rules of what their bodies can begin with (`fronts`).

@@ -9,9 +9,9 @@ ghost use Rattle.ylalr.specs.Behind.{AddsAtMost, HasForm};
 ghost use Rattle.ysymbols.specs.Grammar.{body_of};
 ghost use Rattle.std.specs.Prelude.{◌≤◌, slice_index_or};
 ghost use Rattle.ylalr.specs.Items.{Lookahead, IsNextLook};
-ghost use Rattle.yrows.specs.Marks.{Has};
+ghost use Rattle.ybitsets.specs.Marks.{Has};
 ghost use Rattle.ylalr.specs.Lr0.{FitLr0, Whole};
-ghost use Rattle.yrows.specs.Rows.{Grows, IsSized};
+ghost use Rattle.ybitsets.specs.Rows.{Grows, IsSized};
 ghost use Rattle.ylalr.specs.States.{set_at};
 
 use crate::behind::{Behind, add_form};
@@ -23,10 +23,10 @@ use crate::states::States;
 use crate::tokens::{END, token_count};
 use std::alloc::{AllocError, Global};
 use std::marker::Model;
-use yrows::links::Links;
-use yrows::marks::Marks;
-use yrows::rows::Rows;
-use yrows::spread::spread;
+use ybitsets::links::Links;
+use ybitsets::marks::Marks;
+use ybitsets::rows::Rows;
+use ybitsets::spread::spread;
 use ysymbols::{Grammar, Sym, let_go};
 
 /// The LR(0) automaton of a grammar, and beside it what its lookaheads are made from.

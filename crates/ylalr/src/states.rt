@@ -1,13 +1,14 @@
 //! The states found so far, numbered by their kernels.
 
-ghost use Rattle.std.specs.Prelude.{◌≡◌, ◌<◌, ◌++◌, ◌∷◌, [], length, IfOk, OnOk, OnErr, IfSome, IfNone};
+ghost use Rattle.std.specs.Prelude.{◌≡◌, ◌<◌, ◌++◌, ◌∷◌, [], length, IfOk, OnOk, OnErr, IfSome};
+ghost use Rattle.std.specs.Prelude.{IfNone};
 ghost use Rattle.ylalr.specs.States.{IsFresh, HasKernel, IsKernelAt, Lacks, set_at, with_state};
 
 use crate::items::Item;
 use std::alloc::{AllocError, Global};
 use std::collections::HashMap;
 use std::marker::Model;
-use yrows::list::Sequence;
+use ybitsets::list::Sequence;
 use ysymbols::let_go;
 
 /// The most states that an automaton may have.

@@ -1,6 +1,7 @@
 -- What a device has taken of a buffer that it leaves.
 use Rattle.std.proofs.Common.{◌≡◌, ◌∙◌, ℕ, Bool, true, false, List, [], Option, Some, None}
-use Rattle.std.proofs.Common.{◌≤◌, ◌∷◌, append-nil, arith, drop, length, refl, suc, zero, subst, sym}
+use Rattle.std.proofs.Common.{◌≤◌, ◌∷◌, append-nil, arith, drop, length, refl, suc, zero, subst}
+use Rattle.std.proofs.Common.{sym}
 use Rattle.std.proofs.KnownBytes.{Keeps-refl, append_known-moved}
 use Rattle.std.specs.Io.KnownBytes.{Appends, Keeps, append_known}
 use Rattle.ylink.specs.declared.buffered.Buffered.{Buffered}

@@ -14,7 +14,8 @@ use Rattle.ymachine.specs.declared.machine.Edit.{Edit}
 use Rattle.ymachine.specs.declared.machine.Edit.TheVariants as edits
 use Rattle.ymachine.specs.declared.machine.StepKind.{StepKind}
 use Rattle.ymachine.specs.declared.machine.StepKind.TheVariants as kinds
-use Rattle.ymachine.specs.Machine.{Machine, Move, Shift, Reduce, Accept, Error, Entry, Configuration}
+use Rattle.ymachine.specs.Machine.{Machine, Move, Shift, Reduce, Accept, Error, Entry}
+use Rattle.ymachine.specs.Machine.{Configuration}
 use Rattle.ymachine.specs.Machine.{symbols, lookahead, shift_step, discard_step, detect_step}
 use Rattle.ymachine.specs.Machine.{step_by, pop_step, recover_by, next, next_in, edited, edited_in}
 use Rattle.ymachine.specs.Machine.{edited_rest}

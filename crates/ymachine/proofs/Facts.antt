@@ -16,7 +16,8 @@ use Rattle.ymachine.specs.Content.{Place, entry, top_state, lead, leads, all_bel
 use Rattle.ymachine.specs.Content.{nodes_fit, rest_fits, valid}
 use Rattle.ymachine.proofs.Ends.{join, first, second, length-without_last, length-last_ones}
 use Rattle.ymachine.proofs.States.{leads-push, leads-take}
-use Rattle.ymachine.proofs.Nodes.{below_weaker, below_append, below_take, below_drop, nodes_fit-last}
+use Rattle.ymachine.proofs.Nodes.{below_weaker, below_append, below_take, below_drop}
+use Rattle.ymachine.proofs.Nodes.{nodes_fit-last}
 use Rattle.ymachine.proofs.Nodes.{nodes_fit-more}
 
 -- what `valid` says, part by part

@@ -41,7 +41,8 @@ use Rattle.ymachine.specs.Content.{rest_of, configuration_of, edit_kind}
 use Rattle.ymachine.proofs.Ends.{without_last-append, last_ones-append, both_ends, length-last_ones}
 use Rattle.ymachine.proofs.Ends.{top_back}
 use Rattle.ymachine.proofs.States.{leads_walk, leads_walk_to, leads-take, state_from-last}
-use Rattle.ymachine.proofs.Rests.{left, none_left, ahead_is, left_by_ahead, taken_back, inserted_back}
+use Rattle.ymachine.proofs.Rests.{left, none_left, ahead_is, left_by_ahead, taken_back}
+use Rattle.ymachine.proofs.Rests.{inserted_back}
 use Rattle.ymachine.proofs.Rests.{inserted_first, fits_taken, fits_inserted}
 use Rattle.ymachine.proofs.Facts.{Facts, FactsOf, grow, fold, pop, stay, advance}
 use Rattle.ymachine.proofs.Shown.{symbol_of, shown-symbols, shown-grown, shown-reduced, length-map}

@@ -10,7 +10,8 @@ use Rattle.ymachine.specs.declared.parts.Node.{Node}
 use Rattle.ymachine.specs.declared.parts.Node.TheVariants as nodes
 use Rattle.ymachine.specs.Tree.{Tree, error_leaf, node, trees_of, list_of, children_of}
 use Rattle.ymachine.specs.Machine.{Entry}
-use Rattle.ymachine.specs.Content.{all_below, node_fits, nodes_fit, tree_over, trees_from, trees_over}
+use Rattle.ymachine.specs.Content.{all_below, node_fits, nodes_fit, tree_over, trees_from}
+use Rattle.ymachine.specs.Content.{trees_over}
 use Rattle.ymachine.specs.Content.{node_tree, entry_view}
 use Rattle.ymachine.proofs.Ends.{join, first, second}
 

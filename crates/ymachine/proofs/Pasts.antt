@@ -6,7 +6,8 @@ use Rattle.std.proofs.lemmas.List.{reverse-append, length-reverse, length-append
 use Rattle.ymachine.specs.declared.machine.StepFault.{StepFault}
 use Rattle.ymachine.specs.declared.machine.StepFault.TheVariants.{Halted, NoToken, Limit, Memory}
 use Rattle.ymachine.specs.Past.{position, most_steps}
-use Rattle.ymachine.specs.Reversible.{Advances, IsJournal, StepsOn, past_by, refusal_of, states_from}
+use Rattle.ymachine.specs.Reversible.{Advances, IsJournal, StepsOn, past_by, refusal_of}
+use Rattle.ymachine.specs.Reversible.{states_from}
 use Rattle.ymachine.specs.Reversible.{states_before, fit_from, all_fit}
 use Rattle.ymachine.proofs.Ends.{join}
 

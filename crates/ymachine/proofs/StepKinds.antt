@@ -11,7 +11,8 @@ use Rattle.ymachine.specs.declared.machine.Edit.{Edit}
 use Rattle.ymachine.specs.declared.machine.Edit.TheVariants as edits
 use Rattle.ymachine.specs.declared.machine.StepKind.{StepKind}
 use Rattle.ymachine.specs.declared.machine.StepKind.TheVariants as kinds
-use Rattle.ymachine.specs.Machine.{Machine, Move, Shift, Reduce, Accept, Error, Entry, Configuration}
+use Rattle.ymachine.specs.Machine.{Machine, Move, Shift, Reduce, Accept, Error, Entry}
+use Rattle.ymachine.specs.Machine.{Configuration}
 use Rattle.ymachine.specs.Machine.{symbols, lookahead, without_last, width, fail_step, shift_step}
 use Rattle.ymachine.specs.Machine.{reduce_step}
 use Rattle.ymachine.specs.Machine.{discard_step, detect_step, step_by, pop_step, recover_by, next}

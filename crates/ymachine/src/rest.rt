@@ -2,7 +2,8 @@
 
 ghost use Rattle.std.specs.Prelude.{◌≡◌, ◌<◌, ◌≤◌, ◌^◌, length, slice_index_or};
 ghost use Rattle.std.specs.Prelude.{IfOk, OnOk, vec_len, vec_capacity};
-ghost use Rattle.ymachine.specs.Rest.{rest_in, rest_left, ahead, is_left, place_left, without_first};
+ghost use Rattle.ymachine.specs.Rest.{rest_in, rest_left, ahead, is_left, place_left};
+ghost use Rattle.ymachine.specs.Rest.{without_first};
 ghost use Rattle.ymachine.specs.Rest.{with_first_back};
 ghost use Rattle.ymachine.specs.Rest.{with_insertion, without_insertion, first_rest};
 

@@ -3,8 +3,8 @@
 use crate::shelf::File;
 use std::alloc::{AllocError, Global};
 use std::str;
+use ycommandline::Refused;
 use ydebugger::words::number_of;
-use yforms::Refused;
 
 /// The name of the program, which stands before its words.
 const PROGRAM: &str = "ydebug";

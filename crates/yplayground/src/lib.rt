@@ -1,5 +1,5 @@
 //! `ydebug` over files in memory, for the playground: all that it does of a command line, of files
-//! and of standard input is done by the crate of the program itself, `yforms`.
+//! and of standard input is done by the crate of the program itself, `ycommandline`.
 //!
 //! What is given differs from a system in this. Files are read alone: whatever would write one, or
 //! look into a folder, is refused as where nothing may be written. A name means one file, and is
@@ -14,7 +14,7 @@ mod shelf;
 use crate::laid::{Laid, laid_out};
 use crate::shelf::Shelf;
 use std::alloc::Global;
-use yforms::{Given, Refused, Setting, status_of};
+use ycommandline::{Given, Refused, Setting, status_of};
 
 /// The status where the words or the files aren't laid out as they are to be. No run has it.
 const UNREADABLE: u32 = 125;

@@ -27,7 +27,7 @@ use ylists::kinds::{put_counts, put_named};
 use ylists::list_text::{ListText, put_unfound};
 use ylists::saving::{Folder, put_failed};
 use yparse::Session;
-use yreasons::Reasons;
+use yprovenance::Reasons;
 use ysearch::trial::empty_session;
 use ytables::Tables;
 use yview::page::Page;

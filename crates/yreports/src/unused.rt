@@ -8,7 +8,7 @@ use yexplain::reads::{
     ready_of, rule_of, set, shift_of,
 };
 use ylalr::token_count;
-use yreasons::{Rival, settle};
+use yprovenance::{Rival, settle};
 use ysymbols::{Grammar, Sym};
 use ytables::{Action, Class, Tables, standing_between};
 

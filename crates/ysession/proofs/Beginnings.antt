@@ -20,10 +20,12 @@ use Rattle.ymachine.proofs.Prefixes.{reverse_cons, reverse_push, rule_within, af
 use Rattle.ymachine.proofs.Prefixes.{viable_expected}
 use Rattle.ymachine.proofs.Unwindings.{found}
 use Rattle.ysession.specs.Sentences.{IsSentence, BeginsSentence}
-use Rattle.ysession.proofs.Yields.{all_front, all_middle, Cut, cut, Yields, none, token, rule, Split}
+use Rattle.ysession.proofs.Yields.{all_front, all_middle, Cut, cut, Yields, none, token, rule}
+use Rattle.ysession.proofs.Yields.{Split}
 use Rattle.ysession.proofs.Yields.{yields_tokens, yields_append, yields_split, yields_token}
 use Rattle.ysession.proofs.Yields.{yields_from_derives, yields_derived, derives_from_yields}
-use Rattle.ysession.proofs.Quiet.{Plain, plain_shift, plain_reduce, plain_accept, plain_fail, PlainTo}
+use Rattle.ysession.proofs.Quiet.{Plain, plain_shift, plain_reduce, plain_accept, plain_fail}
+use Rattle.ysession.proofs.Quiet.{PlainTo}
 use Rattle.ysession.proofs.Shifted.{Shifted, shifted_on}
 
 abbrev known : ContextFree → ℕ → Type 0

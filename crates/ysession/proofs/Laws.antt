@@ -12,7 +12,8 @@ use Rattle.ymachine.specs.Rightmost.{AreInput}
 use Rattle.ysession.specs.declared.verdict.Verdict.{Verdict}
 use Rattle.ysession.specs.declared.verdict.Verdict.TheVariants.{Limit}
 use Rattle.ysession.specs.Verdict.{IsQuiet, place_ahead, AcceptedAt, Says, IsVerdict}
-use Rattle.ysession.specs.Sentences.{IsSentence, Derivations, steps_of, IsSoundOf, IsExactOf, IsAnswered}
+use Rattle.ysession.specs.Sentences.{IsSentence, Derivations, steps_of, IsSoundOf, IsExactOf}
+use Rattle.ysession.specs.Sentences.{IsAnswered}
 
 -- Two histories of one length that detect no error are equal.
 abbrev pub OneHistoryLaw : Type 0

@@ -12,7 +12,8 @@ use Rattle.ymachine.specs.Past.{position}
 use Rattle.ymachine.specs.History.{History, first_configuration}
 use Rattle.ymachine.proofs.StepKinds.{some_is, none_some}
 use Rattle.ysession.specs.declared.verdict.Verdict.TheVariants.{Accepted, Rejected, Limit}
-use Rattle.ysession.specs.Verdict.{is_detect, NoDetect, IsQuiet, place_ahead, AcceptedAt, RejectedAt}
+use Rattle.ysession.specs.Verdict.{is_detect, NoDetect, IsQuiet, place_ahead, AcceptedAt}
+use Rattle.ysession.specs.Verdict.{RejectedAt}
 use Rattle.ysession.proofs.Laws.{OneHistoryLaw, OneVerdictLaw, VerdictLaw, LimitLaw}
 use Rattle.ysession.proofs.Laws.{HaltedLaw}
 use Rattle.ysession.proofs.Yields.{all_front}

@@ -19,7 +19,8 @@ use Rattle.ymachine.specs.Past.{LeadsTo, Comes}
 use Rattle.ymachine.specs.History.{History, first_configuration, first_history}
 use Rattle.ymachine.specs.Unwinding.{is_error_step, is_edit, NoErrors, NoEdits}
 use Rattle.ymachine.proofs.StepKinds.{some_is, none_some, Stepped, shifts, reduces, accepts, fails}
-use Rattle.ymachine.proofs.StepKinds.{detects, discards, pops, shifts_error, inserts, drops, stepped}
+use Rattle.ymachine.proofs.StepKinds.{detects, discards, pops, shifts_error, inserts, drops}
+use Rattle.ymachine.proofs.StepKinds.{stepped}
 use Rattle.ysession.specs.Verdict.{is_detect, NoDetect, IsQuiet}
 
 abbrev truth : Bool → Type 0

@@ -1,7 +1,8 @@
 -- The forms of rightmost derivations, and the items that are valid at them (Aho, Sethi and Ullman,
 -- 4.7: right-sentential forms, viable prefixes and valid items).
 use Rattle.std.proofs.Common.{ℕ, zero, suc, ◌≡◌, ◌≢◌, ◌<◌, ◌+◌, List, [], ◌∷◌, ◌++◌, length, drop}
-use Rattle.std.proofs.Common.{reverse, refl, sym, ◌∙◌, ap, subst, append_assoc, append-nil, inl, inr}
+use Rattle.std.proofs.Common.{reverse, refl, sym, ◌∙◌, ap, subst, append_assoc, append-nil, inl}
+use Rattle.std.proofs.Common.{inr}
 use Rattle.std.proofs.Common.{arith}
 use Rattle.std.specs.List.{All}
 use Rattle.std.proofs.lemmas.List.Elements.{All-nil, All-cons, All-head, All-tail, All-append}
@@ -15,7 +16,8 @@ use Rattle.ylalr.specs.Items.{Valid, start, closure, move}
 use Rattle.ymachine.specs.Cells.{Expects}
 use Rattle.ymachine.proofs.Prefixes.{after, reverse_cons, expects_last}
 use Rattle.ysession.specs.Sentences.{IsSentence}
-use Rattle.ysession.proofs.Yields.{all_front, all_back, all_middle, head_is, tail_is, no_middle, Cut}
+use Rattle.ysession.proofs.Yields.{all_front, all_back, all_middle, head_is, tail_is, no_middle}
+use Rattle.ysession.proofs.Yields.{Cut}
 use Rattle.ysession.proofs.Yields.{cut, Uses, uses, Yields, none, token, rule, Split, yields_tokens}
 use Rattle.ysession.proofs.Yields.{yields_nothing, yields_split, yields_back, yields_from_derives}
 use Rattle.ysession.proofs.Yields.{derives_from_yields}

@@ -11,7 +11,8 @@ use Rattle.ymachine.specs.Unwinding.{tokens_left, forms_before}
 use Rattle.ymachine.proofs.Unwindings.{left_of_places}
 use Rattle.ysession.specs.Verdict.{place_ahead}
 use Rattle.ysession.proofs.Laws.{PlaceLaw}
-use Rattle.ysession.proofs.Quiet.{Plain, plain_shift, plain_reduce, plain_accept, plain_fail, PlainTo}
+use Rattle.ysession.proofs.Quiet.{Plain, plain_shift, plain_reduce, plain_accept, plain_fail}
+use Rattle.ysession.proofs.Quiet.{PlainTo}
 use Rattle.ysession.proofs.Quiet.{apart, quiet_plain}
 
 -- The tokens are those shifted and the upcoming ones, with their places.

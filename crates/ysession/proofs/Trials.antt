@@ -15,7 +15,8 @@ use Rattle.ymachine.specs.declared.machine.Mode.TheVariants.{Running, Popping, A
 use Rattle.ymachine.specs.declared.machine.StepKind.{StepKind}
 use Rattle.ymachine.specs.declared.machine.StepKind.TheVariants as kinds
 use Rattle.ymachine.specs.History.{History}
-use Rattle.ymachine.specs.Machine.{Configuration, Entry, Machine, Move, Shift, Reduce, Accept, Error}
+use Rattle.ymachine.specs.Machine.{Configuration, Entry, Machine, Move, Shift, Reduce, Accept}
+use Rattle.ymachine.specs.Machine.{Error}
 use Rattle.ymachine.specs.Machine.{next, next_in, edited, edited_in, lookahead, symbols, shift_step}
 use Rattle.ymachine.specs.Machine.{reduce_step, discard_step, detect_step, recover_by, pop_step}
 use Rattle.ymachine.specs.MachineOver.{machine_over}

@@ -1,5 +1,6 @@
 -- Each history that the replies of a session reach is one of its machine.
-use Rattle.std.proofs.Common.{ℕ, zero, suc, ◌≡◌, ◌-◌, inl, inr, Bool, true, false, List, [], ◌∷◌, Ok}
+use Rattle.std.proofs.Common.{ℕ, zero, suc, ◌≡◌, ◌-◌, inl, inr, Bool, true, false, List, [], ◌∷◌}
+use Rattle.std.proofs.Common.{Ok}
 use Rattle.std.proofs.Common.{Err, refl, sym, ◌∙◌, subst}
 use Rattle.ysymbols.specs.Grammar.{GrammarValue}
 use Rattle.ymachine.specs.declared.machine.Edit.{Edit}

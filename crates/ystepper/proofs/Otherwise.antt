@@ -1,5 +1,6 @@
 -- A text of a session has no step that was refused when memory ran out, or it says `no memory`.
-use Rattle.std.proofs.Common.{ℕ, zero, suc, ◌≡◌, ◌-◌, ◌++◌, ◌⊎◌, inl, inr, Bool, true, false, List, []}
+use Rattle.std.proofs.Common.{ℕ, zero, suc, ◌≡◌, ◌-◌, ◌++◌, ◌⊎◌, inl, inr, Bool, true, false, List}
+use Rattle.std.proofs.Common.{[]}
 use Rattle.std.proofs.Common.{◌∷◌, Ok, Err, codes, sym, ap, ◌∙◌, subst, append_assoc}
 use Rattle.ymachine.specs.declared.machine.Edit.{Edit}
 use Rattle.ymachine.specs.declared.machine.Edit.TheVariants as edits

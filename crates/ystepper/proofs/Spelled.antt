@@ -1,16 +1,19 @@
 -- Each command but the unknown one is known by its spelling.
 use Rattle.std.proofs.Common.{ℕ, ◌≡◌, ◌≢◌, ◌≤◌, ◌∙◌, true, false, List, ◌++◌, length, take}
-use Rattle.std.proofs.Common.{drop, Option, Some, None, refl, sym, ap, subst, inl, inr, arith, codes}
+use Rattle.std.proofs.Common.{drop, Option, Some, None, refl, sym, ap, subst, inl, inr, arith}
+use Rattle.std.proofs.Common.{codes}
 use Rattle.std.proofs.Common.{◌&&◌, ◌||◌, nat_le, nat_lt, length-append}
 use Rattle.std.specs.Option.{option_map_or}
 use Rattle.std.specs.Str.{bytes_eq, all_ascii_digits}
 use Rattle.std.specs.Str.Parse.{digits_value}
 use Rattle.std.proofs.lemmas.Bool.{and_from, and_parts, and_right, cond-false, cond-true, cond_both}
-use Rattle.std.proofs.lemmas.Bool.{leb-true, le-leb, le-ltb, ltb-false, lt-ltb, ltb-true, or_from, or_parts}
+use Rattle.std.proofs.lemmas.Bool.{leb-true, le-leb, le-ltb, ltb-false, lt-ltb, ltb-true, or_from}
+use Rattle.std.proofs.lemmas.Bool.{or_parts}
 use Rattle.std.proofs.lemmas.List.{take-append-drop}
 use lib.Seq.{take-append_seam, drop-append_seam}
 use Rattle.std.proofs.lemmas.Slice.Eq.{bytes_eq-Decides}
-use Rattle.ystepper.specs.Command.{Command, Run, Back, To, Show, Tree, Unwind, Insert, Drop, Unknown}
+use Rattle.ystepper.specs.Command.{Command, Run, Back, To, Show, Tree, Unwind, Insert, Drop}
+use Rattle.ystepper.specs.Command.{Unknown}
 use Rattle.ystepper.specs.Command.{IsNumbered, IsSpelled, command_of, greatest_count, number_after}
 use Rattle.ystepper.specs.Command.{number_command, number_in, number_within, text_after}
 use Rattle.ystepper.specs.Line as lines

@@ -21,7 +21,8 @@ use Rattle.ystepper.specs.declared.command.Line.{Line as CodeLine}
 use Rattle.ystepper.specs.Lines.{last_line}
 use Rattle.ystepper.specs.Reply.{Reply, Answers}
 use Rattle.ystepper.specs.Transcript.{Continues, Transcript, Tells}
-use Rattle.ystepper.specs.Serving.{whole_after, rest_after, whole_lines, rest_line, lines_of, Replies}
+use Rattle.ystepper.specs.Serving.{whole_after, rest_after, whole_lines, rest_line, lines_of}
+use Rattle.ystepper.specs.Serving.{Replies}
 use Rattle.ystepper.specs.Serving.{Breaks, ChunkTells, ReadTells, Ends}
 use Rattle.ylink.proofs.Sent.{Sends-then, Sends-stop, Sends-nothing}
 use Rattle.ystepper.proofs.Plain.{Transcript-some}

@@ -11,7 +11,8 @@ use Rattle.ymachine.specs.declared.machine.StepFault.{StepFault}
 use Rattle.ymachine.specs.declared.machine.StepFault.TheVariants.{Halted, NoToken, Limit, Memory}
 use Rattle.ymachine.specs.declared.machine.Edit.{Edit}
 use Rattle.ymachine.specs.declared.machine.Edit.TheVariants as edit
-use Rattle.ystepper.specs.Command.{Command, Run, Back, To, Show, Tree, Unwind, Insert, Drop, Unknown}
+use Rattle.ystepper.specs.Command.{Command, Run, Back, To, Show, Tree, Unwind, Insert, Drop}
+use Rattle.ystepper.specs.Command.{Unknown}
 use Rattle.ylink.specs.declared.link.Link.{Link}
 use Rattle.ylink.specs.Sends.{Sends}
 use Rattle.ytables.specs.Text.{spaced_names}

@@ -1,6 +1,7 @@
 //! Symbols by their printed names: each name once, its number the place where it was interned.
 
-ghost use Rattle.std.specs.Prelude.{◌≡◌, ◌≤◌, ℕ, List, length, map, take, false, OnOk, IfOk, [], ◌∷◌};
+ghost use Rattle.std.specs.Prelude.{◌≡◌, ◌≤◌, ℕ, List, length, map, take, false, OnOk, IfOk, []};
+ghost use Rattle.std.specs.Prelude.{◌∷◌};
 ghost use Rattle.std.specs.Prelude.{◌++◌, OnErr, slice_get};
 ghost use Rattle.ysymbols.specs.Names.{find_in, is_among, with_name, with_names, number_in};
 ghost use Rattle.ysymbols.specs.Names.{printed_literal};

@@ -1,5 +1,6 @@
 -- There is a role for each lexeme.
-use Rattle.std.proofs.Common.{ℕ, zero, suc, ◌≡◌, ◌+◌, ◌∙◌, Bool, true, false, List, [], ◌∷◌, ◌++◌, length, map}
+use Rattle.std.proofs.Common.{ℕ, zero, suc, ◌≡◌, ◌+◌, ◌∙◌, Bool, true, false, List, [], ◌∷◌, ◌++◌}
+use Rattle.std.proofs.Common.{length, map}
 use Rattle.std.proofs.Common.{Option, Some, None, replicate, refl, ap, sym, length-append, arith}
 use Rattle.std.specs.List.{flat_map}
 use Rattle.ylexemes.specs.Lexemes.{Lexeme, braced, fixed, name, number}

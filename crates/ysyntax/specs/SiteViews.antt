@@ -15,7 +15,8 @@ use Rattle.ysyntax.specs.declared.tree.BodyPart.TheVariants as items
 use Rattle.ysyntax.specs.declared.tree.RuleText.{RuleText as CodeRuleText}
 use Rattle.ysyntax.specs.declared.tree.Tree.{Tree as CodeTree}
 use Rattle.ysyntax.specs.Sites.{Mark, Role, Site, digits, each, left_side, listed, mark, namings}
-use Rattle.ysyntax.specs.Sites.{prec_name, site, site_mark, start_name, start_word, tag, typed, used}
+use Rattle.ysyntax.specs.Sites.{prec_name, site, site_mark, start_name, start_word, tag, typed}
+use Rattle.ysyntax.specs.Sites.{used}
 use Rattle.ysyntax.specs.Tree.{Identifier, identifier_yield}
 use Rattle.ysyntax.specs.TreeViews.{occurrence_view, name_view, digits_view}
 

@@ -1,6 +1,7 @@
 //! A grammar file cut into lexemes, up to its first fault.
 
-ghost use Rattle.std.specs.Prelude.{◌≡◌, ◌+◌, ◌++◌, ◌<◌, ◌≤◌, ◌↔◌, ℕ, List, [], length, Ok, Err, IfOk};
+ghost use Rattle.std.specs.Prelude.{◌≡◌, ◌+◌, ◌++◌, ◌<◌, ◌≤◌, ◌↔◌, ℕ, List, [], length, Ok, Err};
+ghost use Rattle.std.specs.Prelude.{IfOk};
 ghost use Rattle.std.specs.Prelude.{IfErr, IsErrOf};
 ghost use Rattle.ysyntax.specs.Answers.{Gives, Answers, StandIn, StopsIn, fault_at, views};
 ghost use Rattle.ysyntax.specs.Placing.{too_long};

@@ -13,7 +13,7 @@ use Rattle.ylalr.specs.declared.items.Item.{Item}
 use Rattle.ylalr.specs.Sets.{InRange}
 use Rattle.ylalr.specs.Items.{Valid, start, closure, move, InCore}
 use Rattle.ylalr.specs.Collection.{Collection, HasStates, IsGoto, bare_of, state_of, goto_in}
-use Rattle.yrows.specs.Packed.{PackedRows, entry_of, IsPushed}
+use Rattle.ybitsets.specs.Packed.{PackedRows, entry_of, IsPushed}
 use Rattle.ytables.specs.Tables.{after_dot, begins_with, is_before, has_before, AreGotosTo}
 use Rattle.ytables.specs.Tables.{AreGotos}
 

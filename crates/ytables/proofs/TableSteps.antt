@@ -8,7 +8,7 @@ use Rattle.ylalr.specs.Collection.{Collection, Guide}
 use Rattle.ytables.specs.declared.cell.Action.{Action}
 use Rattle.ytables.specs.declared.cell.Action.TheVariants.{Error}
 use Rattle.ytables.specs.Cell.{by_default}
-use Rattle.yrows.specs.Packed.{PackedRows, entry_of, IsPushed}
+use Rattle.ybitsets.specs.Packed.{PackedRows, entry_of, IsPushed}
 use Rattle.ytables.specs.declared.cell.Conflict.{Conflict}
 use Rattle.ytables.specs.Rows.{IsRow}
 use Rattle.ytables.specs.Tables.{AreConflicts, conflicts_in}

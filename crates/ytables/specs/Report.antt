@@ -1,6 +1,7 @@
 -- The text of the report: rules, those that can't be reached, tokens, and each state with its
 -- items, actions and conflicts.
-use Rattle.std.specs.Prelude.{ℕ, ◌≡◌, ◌<◌, ◌&&◌, ◌++◌, List, [], length, codes, decimal, take, Option, Some}
+use Rattle.std.specs.Prelude.{ℕ, ◌≡◌, ◌<◌, ◌&&◌, ◌++◌, List, [], length, codes, decimal, take}
+use Rattle.std.specs.Prelude.{Option, Some}
 use Rattle.std.specs.Prelude.{None, false, if◌then◌else◌, nat_eq, slice_get, slice_index_or}
 use Rattle.std.specs.Prelude.{unwrap_or, flat_map}
 use Rattle.ysymbols.specs.Grammar.{GrammarValue, left_of, body_of}

@@ -12,7 +12,7 @@ use Rattle.ytables.specs.declared.cell.Action.{Action}
 use Rattle.ytables.specs.declared.cell.Action.TheVariants.{Shift, Accept, Error}
 use Rattle.ytables.specs.declared.cell.Cell.{Cell}
 use Rattle.ytables.specs.declared.cell.Conflict.{Conflict}
-use Rattle.yrows.specs.Packed.{PackedRows, entry_of}
+use Rattle.ybitsets.specs.Packed.{PackedRows, entry_of}
 use Rattle.ytables.specs.Cell.{class_of, cell_of, is_filled, common, by_default}
 
 -- the symbols from the dot on

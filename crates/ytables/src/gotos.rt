@@ -6,8 +6,8 @@ ghost use Rattle.ytables.specs.Tables.{AreGotos};
 
 use crate::dots::next_symbol;
 use std::alloc::{AllocError, Global};
+use ybitsets::packed::Packed;
 use ylalr::{Automaton, token_count};
-use yrows::packed::Packed;
 
 /// The gotos of a state over nonterminals; the first nonterminal has the first column. A symbol
 /// has no goto where no item has the dot before it.

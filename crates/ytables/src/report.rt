@@ -12,7 +12,8 @@ ghost use Rattle.ytables.specs.Text.{count_line, name_of, spaced_names};
 ghost use Rattle.ytables.specs.Report.{rule_head, rule_text, unreachable_line};
 ghost use Rattle.ytables.specs.Report.{token_line, looks_text, on_text, StandsAt};
 ghost use Rattle.ytables.specs.Report.{item_front, item_back, item_text_at, line_for, action_line};
-ghost use Rattle.ytables.specs.Report.{goto_line, conflict_text_at, conflicts_text, rule_or_actions};
+ghost use Rattle.ytables.specs.Report.{goto_line, conflict_text_at, conflicts_text};
+ghost use Rattle.ytables.specs.Report.{rule_or_actions};
 ghost use Rattle.ytables.specs.Report.{cells_text, state_text, counts_text};
 ghost use Rattle.ytables.specs.Report.{tokens_part, report_of};
 

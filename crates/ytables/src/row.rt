@@ -16,8 +16,8 @@ use crate::cell::{Action, Cell, Conflict, Tally};
 use crate::dots::next_symbol;
 use crate::tallies::tallies_of;
 use std::alloc::{AllocError, Global};
+use ybitsets::list::Sequence;
 use ylalr::{Automaton, END, Item};
-use yrows::list::Sequence;
 use ysymbols::{Grammar, Sym};
 
 /// For each token, whether an item of the list has its dot before it.

@@ -21,9 +21,9 @@ use crate::gotos::all_gotos;
 use crate::row::row_of;
 use std::alloc::{AllocError, Global};
 use std::marker::Model;
+use ybitsets::list::Sequence;
+use ybitsets::packed::Packed;
 use ylalr::{Automaton, token_count};
-use yrows::list::Sequence;
-use yrows::packed::Packed;
 use ysymbols::{Grammar, Sym, let_go};
 
 /// How many conflicts the cells of all states count.

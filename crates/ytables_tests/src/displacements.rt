@@ -2,7 +2,7 @@
 
 use std::alloc::Global;
 use std::test::Fail;
-use yrows::packed::Packed;
+use ybitsets::packed::Packed;
 
 /// A column that is filled, and one that is free.
 const X: bool = true;

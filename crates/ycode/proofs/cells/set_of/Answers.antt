@@ -1,4 +1,5 @@
-use Rattle.std.proofs.Common.{ℕ, ◌≡◌, ◌<◌, ◌∙◌, Bool, false, List, Option, None, is_some, get_or, length}
+use Rattle.std.proofs.Common.{ℕ, ◌≡◌, ◌<◌, ◌∙◌, Bool, false, List, Option, None, is_some, get_or}
+use Rattle.std.proofs.Common.{length}
 use Rattle.std.proofs.Common.{ap, sym, subst}
 use Rattle.ytables.specs.Tables.{default_at}
 use Rattle.ycode.specs.Bits.{HasSet, bytes_for, with_set, number_of, SetsValue}

@@ -1,6 +1,6 @@
 use Rattle.std.proofs.Common.{◌≡◌, ◌<◌, ◌∙◌, None, length, get_or, take, sym, ap, arith}
 use Rattle.std.proofs.lemmas.List.{take_more}
-use Rattle.yrows.proofs.PackedSteps.{refill_same}
+use Rattle.ybitsets.proofs.PackedSteps.{refill_same}
 use Rattle.ycode.specs.declared.entry.Entry.{Entry}
 use Rattle.ycode.specs.Entries.{or_else, number_at, entry_at}
 use Rattle.ycode.proofs.EntrySteps.{entry_at-last}

@@ -6,7 +6,8 @@ use Rattle.ydeclarations.specs.Elaboration.{Listing}
 use Rattle.ydeclarations.specs.Outline.{listed_view}
 use Rattle.ydeclarations.specs.Owned.{AllSmall, HasFirst, IsFirstWrong, TellsNumbers}
 use Rattle.ydeclarations.proofs.OwnSteps.{adds_at, adds_none, no_digits}
-use Rattle.ydeclarations.proofs.WrongSteps.{first_at, first_none_at, wrong_all, wrong_at, wrong_none_at}
+use Rattle.ydeclarations.proofs.WrongSteps.{first_at, first_none_at, wrong_all, wrong_at}
+use Rattle.ydeclarations.proofs.WrongSteps.{wrong_none_at}
 use Rattle.ydeclarations.proofs.given.given_numbers.Goals.{Joined-listed-i, in_default, in-Some}
 use Rattle.ydeclarations.proofs.given.given_numbers.Goals as goal
 

@@ -1,6 +1,6 @@
 use Rattle.std.proofs.Common.{◌<◌, ◌∙◌, refl, sym, length, get_or, arith}
 use Rattle.std.proofs.lemmas.List.Elements.{All-more}
-use Rattle.yrows.specs.Marks.{Has}
+use Rattle.ybitsets.specs.Marks.{Has}
 use Rattle.ylalr.proofs.FormSteps.{adding_more}
 use Rattle.ylalr.proofs.behind.add_form.Goals as goal
 

@@ -1,7 +1,7 @@
 use Rattle.std.proofs.Common.{take}
 use Rattle.std.specs.List.{All}
-use Rattle.yrows.specs.Marks.{Has}
-use Rattle.yrows.specs.Rows.{IsSized}
+use Rattle.ybitsets.specs.Marks.{Has}
+use Rattle.ybitsets.specs.Rows.{IsSized}
 use Rattle.ylalr.proofs.FormSteps.{Adding}
 use Rattle.ylalr.proofs.behind.add_form.Given as goal
 

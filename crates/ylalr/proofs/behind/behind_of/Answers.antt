@@ -1,5 +1,5 @@
 use Rattle.std.proofs.Common.{◌<◌, ◌∙◌, ap, false, length, replicate, subst, arith}
-use Rattle.yrows.proofs.MarkSteps.{mark_size}
+use Rattle.ybitsets.proofs.MarkSteps.{mark_size}
 use Rattle.ylalr.proofs.BehindSteps.{behind_none, behind_more, marked_more, marked_same, Notes}
 use Rattle.ylalr.proofs.behind.behind_of.Goals.{then-add_form, else-add_form}
 use Rattle.ylalr.proofs.behind.behind_of.Goals as goal

@@ -1,7 +1,7 @@
 use Rattle.std.proofs.Common.{◌≡◌, ◌<◌, ◌+◌, List, length, get_or, subst, sym, arith}
 use Rattle.ylalr.specs.declared.items.Item.{Item}
 use Rattle.ylalr.proofs.ListSteps.{Opening, Merging, Until, merge_step, merged}
-use Rattle.yrows.proofs.Turn.{same_default}
+use Rattle.ybitsets.proofs.Turn.{same_default}
 use Rattle.ylalr.proofs.closure.merge.Goals as goal
 
 pub loop-item-preserved : goal.loop-item-preserved

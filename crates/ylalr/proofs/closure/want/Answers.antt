@@ -1,6 +1,6 @@
 use Rattle.std.proofs.Common.{◌<◌, ◌+◌, length, subst, sym, arith}
-use Rattle.yrows.specs.Rows.{IsSized}
-use Rattle.yrows.proofs.Growth.{sized_grown}
+use Rattle.ybitsets.specs.Rows.{IsSized}
+use Rattle.ybitsets.proofs.Growth.{sized_grown}
 use Rattle.ylalr.proofs.ListSteps.{item_at, item_there, Wanting, wanting_end, wanting_more}
 use Rattle.ylalr.proofs.closure.want.Goals as goal
 use Rattle.ylalr.proofs.closure.want.Goals.{in-Some, in_default}

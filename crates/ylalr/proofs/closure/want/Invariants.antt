@@ -1,5 +1,5 @@
 use Rattle.std.proofs.Common.{length}
-use Rattle.yrows.specs.Rows.{IsSized}
+use Rattle.ybitsets.specs.Rows.{IsSized}
 use Rattle.ylalr.proofs.ListSteps.{Wanting}
 use Rattle.ylalr.proofs.closure.want.Given as goal
 

@@ -1,5 +1,5 @@
 use Rattle.std.proofs.Common.{◌≤◌, ◌-◌, length}
-use Rattle.yrows.specs.Limits.{most_states}
+use Rattle.ybitsets.specs.Limits.{most_states}
 use Rattle.ylalr.specs.Finder.{FitFinder}
 use Rattle.ylalr.specs.States.{IsSorted, RowsAre}
 use Rattle.ylalr.proofs.collection.all_states.Given as goal

@@ -1,6 +1,6 @@
 use Rattle.std.proofs.Common.{◌≤◌, length, subst, sym, arith}
 use Rattle.std.proofs.lemmas.Grind.{common_steps}
-use Rattle.yrows.specs.Limits.{most_states}
+use Rattle.ybitsets.specs.Limits.{most_states}
 use Rattle.ylalr.specs.States.{StateLists, AreStates}
 use Rattle.ylalr.proofs.StateSteps.{states_push, push_length, overflows}
 use Rattle.ylalr.proofs.WholeSteps.{too_many}

@@ -1,6 +1,6 @@
 use Rattle.std.proofs.Common.{refl}
 use Rattle.ylalr.proofs.FrontSteps.{each_more}
-use Rattle.yrows.proofs.Growth.{sized_grown}
+use Rattle.ybitsets.proofs.Growth.{sized_grown}
 use Rattle.ylalr.proofs.first.own_tokens.Goals as goal
 
 pub loop-t-preserved : goal.loop-t-preserved

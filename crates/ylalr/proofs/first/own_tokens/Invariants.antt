@@ -1,5 +1,5 @@
 use Rattle.ylalr.specs.Fronts.{HasEach}
-use Rattle.yrows.specs.Rows.{IsSized}
+use Rattle.ybitsets.specs.Rows.{IsSized}
 use Rattle.ylalr.proofs.first.own_tokens.Given as goal
 
 abbrev pub invariant-loop-t : goal.invariant-loop-t

@@ -1,8 +1,8 @@
 use Rattle.std.proofs.Common.{subst}
-use Rattle.yrows.specs.Marks.{Has}
+use Rattle.ybitsets.specs.Marks.{Has}
 use Rattle.ylalr.proofs.FrontSteps.{first_rules_spread}
-use Rattle.yrows.proofs.Growth.{sized_then}
-use Rattle.yrows.proofs.MarkSteps.{none_marked}
+use Rattle.ybitsets.proofs.Growth.{sized_then}
+use Rattle.ybitsets.proofs.MarkSteps.{none_marked}
 use Rattle.ylalr.proofs.first_rules.first_rules.Goals as goal
 
 pub returns : goal.returns

@@ -1,7 +1,7 @@
 use Rattle.std.proofs.Common.{◌≡◌, ◌∙◌, ap, length}
 use Rattle.ysymbols.specs.Grammar.{Production, left_of}
 use Rattle.ylalr.proofs.FrontSteps.{each_more}
-use Rattle.yrows.proofs.Growth.{sized_grown}
+use Rattle.ybitsets.proofs.Growth.{sized_grown}
 use Rattle.ylalr.proofs.first_rules.own_rules.Goals as goal
 
 pub loop-r-preserved : goal.loop-r-preserved

@@ -1,7 +1,7 @@
 use Rattle.std.proofs.Common.{length}
 use Rattle.ysymbols.specs.Grammar.{left_of}
 use Rattle.ylalr.specs.Fronts.{HasEach}
-use Rattle.yrows.specs.Rows.{IsSized}
+use Rattle.ybitsets.specs.Rows.{IsSized}
 use Rattle.ylalr.proofs.first_rules.own_rules.Given as goal
 
 abbrev pub invariant-loop-r : goal.invariant-loop-r

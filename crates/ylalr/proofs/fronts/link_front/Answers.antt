@@ -1,7 +1,7 @@
 use Rattle.std.proofs.Common.{◌<◌, ◌+◌, length, sym, ◌∙◌, get_or, arith, rules}
 use Rattle.std.proofs.lemmas.Grind.{common_steps}
 use Rattle.std.proofs.lemmas.List.Elements.{All-get_or, All-more}
-use Rattle.yrows.specs.Marks.{Has}
+use Rattle.ybitsets.specs.Marks.{Has}
 use Rattle.ylalr.proofs.FrontSteps.{AddsBelow, below_none, below_push, front_all, front_until}
 use Rattle.ylalr.proofs.fronts.link_front.Goals.{After-has}
 use Rattle.ylalr.proofs.fronts.link_front.Goals as goal

@@ -1,6 +1,6 @@
 use Rattle.std.proofs.Common.{◌≡◌, length, take}
 use Rattle.std.specs.List.{All}
-use Rattle.yrows.specs.Marks.{Has}
+use Rattle.ybitsets.specs.Marks.{Has}
 use Rattle.ylalr.proofs.FrontSteps.{AddsBelow}
 use Rattle.ylalr.proofs.fronts.link_front.Given as goal
 

@@ -1,7 +1,7 @@
 use Rattle.std.proofs.Common.{ℕ, List, ◌≡◌, ◌<◌, ◌≤◌, get_or, ap, sym, subst, refl}
 use Rattle.std.proofs.lemmas.List.{get_or_default}
 use Rattle.ylalr.specs.declared.items.Item.{Item}
-use Rattle.yrows.specs.Rows.{Holds}
+use Rattle.ybitsets.specs.Rows.{Holds}
 use Rattle.ylalr.specs.ItemRows.{IsRowOf, rows_at}
 use Rattle.ylalr.specs.States.{set_at}
 use Rattle.ylalr.proofs.WholeSteps.{looks_at}

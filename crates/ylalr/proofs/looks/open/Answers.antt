@@ -1,12 +1,12 @@
 use Rattle.std.proofs.Common.{◌<◌, ◌∙◌, drop, suc, refl, sym, subst}
 use Rattle.ysymbols.specs.Grammar.{body_of}
 use Rattle.ylalr.specs.Draft.{DraftValue, SoundDraft, Further, GivesForm, OpensAt, form_of}
-use Rattle.yrows.specs.Rows.{IsSized}
+use Rattle.ybitsets.specs.Rows.{IsSized}
 use Rattle.ylalr.proofs.DraftSteps.{rule_below, row_below, opens_none, opens_nowhere, opens_by}
 use Rattle.ylalr.proofs.DraftSteps.{Opening, row_linked, sound_begun, carries_open, sound_linked}
 use Rattle.ylalr.proofs.DraftSteps.{sound_rows}
-use Rattle.yrows.proofs.Growth.{sized_then}
-use Rattle.yrows.proofs.LinkSteps.{link_there, link_kept}
+use Rattle.ybitsets.proofs.Growth.{sized_then}
+use Rattle.ybitsets.proofs.LinkSteps.{link_there, link_kept}
 use Rattle.ylalr.proofs.looks.open.Goals.{After-add_rest}
 use Rattle.ylalr.proofs.looks.open.Goals as goal
 

@@ -3,7 +3,7 @@ use Rattle.ylalr.specs.Sets.{step_of}
 use Rattle.ylalr.specs.Draft.{DraftValue, SoundDraft, Further}
 use Rattle.ylalr.proofs.DraftSteps.{row_below, carries_shift, shifts_by, shifts_none}
 use Rattle.ylalr.proofs.DraftSteps.{row_linked, sound_linked}
-use Rattle.yrows.proofs.LinkSteps.{link_there, link_kept}
+use Rattle.ybitsets.proofs.LinkSteps.{link_there, link_kept}
 use Rattle.ylalr.proofs.looks.shift.Goals as goal
 
 pub push-requires : goal.push-requires

@@ -1,6 +1,6 @@
 use Rattle.std.proofs.Common.{◌∙◌, sym, subst}
 use Rattle.ylalr.specs.Gotos.{goto_of}
-use Rattle.yrows.specs.Rows.{IsSized}
+use Rattle.ybitsets.specs.Rows.{IsSized}
 use Rattle.ylalr.specs.Looks.{SoundLooks, StartLooks}
 use Rattle.ylalr.proofs.DraftSteps.{no_links, sound_start, start_marked}
 use Rattle.ylalr.proofs.looks.start.Goals.{in-Some, in_default}

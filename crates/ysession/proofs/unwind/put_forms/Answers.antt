@@ -11,7 +11,8 @@ use Rattle.ymachine.specs.History.{History}
 use Rattle.ysession.specs.Session.{Setting, setting_of, machine_of, history_of, later_of}
 use Rattle.ymachine.specs.Unwinding.{form_of, forms_from, forms_of, forms_before}
 use Rattle.ymachine.specs.Unwinding.{form_line, is_reduction}
-use Rattle.ysession.proofs.Unwound.{undone-next, forms-reduction, forms-other, stops, goes_back-none}
+use Rattle.ysession.proofs.Unwound.{undone-next, forms-reduction, forms-other, stops}
+use Rattle.ysession.proofs.Unwound.{goes_back-none}
 use Rattle.ysession.proofs.Unwound.{lines-push, at_form}
 use Rattle.ysession.specs.Unwound.{Cuts}
 use Rattle.ysession.proofs.unwind.put_forms.Given.{Over}

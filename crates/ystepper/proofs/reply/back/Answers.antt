@@ -6,7 +6,8 @@ use Rattle.ymachine.specs.History.{History}
 use Rattle.ysession.specs.Session.{machine_of, history_of}
 use Rattle.ystepper.specs.Reply.{undo_text}
 use Rattle.ystepper.specs.Command as commands
-use Rattle.ystepper.proofs.Replying.{replied_none, replied_line, replied_cut, replied_last, replied_all}
+use Rattle.ystepper.proofs.Replying.{replied_none, replied_line, replied_cut, replied_last}
+use Rattle.ystepper.proofs.Replying.{replied_all}
 use Rattle.ystepper.proofs.Replying.{Undos, undos_line, undos_none, undos_off}
 use Rattle.ystepper.proofs.reply.back.Goals as goal
 

@@ -8,7 +8,8 @@ use Rattle.ystepper.specs.Reply.{refusal, Runs}
 use Rattle.ylink.specs.Sends.{Sends}
 use Rattle.ystepper.specs.Command as commands
 use Rattle.ystepper.proofs.Plain.{runs_some}
-use Rattle.ystepper.proofs.Replying.{replied_none, replied_line, replied_cut, replied_last, replied_all}
+use Rattle.ystepper.proofs.Replying.{replied_none, replied_line, replied_cut, replied_last}
+use Rattle.ystepper.proofs.Replying.{replied_all}
 use Rattle.ystepper.proofs.Replying.{runs_line, runs_fault, runs_off}
 use Rattle.ystepper.proofs.reply.run.Goals as goal
 

@@ -1,4 +1,5 @@
-use Rattle.std.proofs.Common.{◌++◌, ◌≡◌, ◌<◌, ◌≤◌, ◌+◌, List, ◌∷◌, ◌||◌, [], length, get_or, sym, ap}
+use Rattle.std.proofs.Common.{◌++◌, ◌≡◌, ◌<◌, ◌≤◌, ◌+◌, List, ◌∷◌, ◌||◌, [], length, get_or, sym}
+use Rattle.std.proofs.Common.{ap}
 use Rattle.std.proofs.Common.{◌∙◌, subst, arith, length-append}
 use Rattle.std.proofs.lemmas.List.{get_or_read}
 use Rattle.ysymbols.specs.Grammar.{GrammarValue, most_rules, most_symbols}

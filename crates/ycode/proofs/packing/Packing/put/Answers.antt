@@ -2,7 +2,7 @@ use Rattle.std.proofs.Common.{ℕ, ◌≡◌, ◌+◌, ◌≤◌, ◌∙◌, Lis
 use Rattle.std.proofs.Common.{set, sym, ap, subst, refl, arith, max}
 use Rattle.std.proofs.Math.ListN.{length-set}
 use Rattle.std.specs.Vec.{with_items}
-use Rattle.yrows.proofs.PackedSteps.{refill_same}
+use Rattle.ybitsets.proofs.PackedSteps.{refill_same}
 use Rattle.ycode.specs.Packing.{PackingValue, IsPacking, IsPut, FitsAt, IsGrown, IsWritten}
 use Rattle.ycode.specs.Packing.{IsEven, can_begin, columns_in, with_row}
 use Rattle.ycode.proofs.PackingSteps.{grown_packing, written_packing, written, exact}

@@ -1,8 +1,10 @@
-use Rattle.std.proofs.Common.{ℕ, ◌≡◌, ◌+◌, ◌<◌, ◌∙◌, List, Bool, Some, None, false, sym, ap, subst, arith}
+use Rattle.std.proofs.Common.{ℕ, ◌≡◌, ◌+◌, ◌<◌, ◌∙◌, List, Bool, Some, None, false, sym, ap, subst}
+use Rattle.std.proofs.Common.{arith}
 use Rattle.ysymbols.specs.Names.{find_in, is_among}
 use Rattle.ycode.specs.Bits.{SetsValue, AreBits, HasSet, IsSets, KeepsSets, AreListed, and_set}
 use Rattle.ycode.specs.Bits.{bytes_for, with_set, number_of}
-use Rattle.ycode.proofs.BitSteps.{not_found, there_set, there_same, there_number, more_set, more_keeps}
+use Rattle.ycode.proofs.BitSteps.{not_found, there_set, there_same, there_number, more_set}
+use Rattle.ycode.proofs.BitSteps.{more_keeps}
 use Rattle.ycode.proofs.BitSteps.{more_same, more_number, more_listed}
 use Rattle.ycode.proofs.sets.Sets.put.Goals as goal
 

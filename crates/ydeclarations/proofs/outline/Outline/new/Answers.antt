@@ -2,8 +2,10 @@ use Rattle.std.proofs.Common.{◌∙◌, ap, List}
 use Rattle.std.specs.List.{flat_map}
 use Rattle.ysyntax.specs.declared.tree.Definition.{Definition}
 use Rattle.ysyntax.specs.declared.tree.RuleText.{RuleText}
-use Rattle.ydeclarations.specs.OutlineSites.{entries_in, lefts_in, precs_in, starts_in, typed_in, used_in}
-use Rattle.ydeclarations.proofs.SiteSteps.{left_sites, listed_sites, number_sites, of_declarations, of_rules}
+use Rattle.ydeclarations.specs.OutlineSites.{entries_in, lefts_in, precs_in, starts_in, typed_in}
+use Rattle.ydeclarations.specs.OutlineSites.{used_in}
+use Rattle.ydeclarations.proofs.SiteSteps.{left_sites, listed_sites, number_sites, of_declarations}
+use Rattle.ydeclarations.proofs.SiteSteps.{of_rules}
 use Rattle.ydeclarations.proofs.SiteSteps.{prec_sites, start_sites, typed_sites, use_sites}
 use Rattle.ydeclarations.proofs.outline.Outline.new.Goals as goal
 

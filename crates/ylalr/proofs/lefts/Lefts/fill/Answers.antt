@@ -1,7 +1,7 @@
 use Rattle.std.proofs.Common.{◌≡◌, get_or, length, refl, arith}
 use Rattle.ylalr.specs.declared.items.Item.{Item}
 use Rattle.ylalr.specs.ItemRows.{At}
-use Rattle.yrows.proofs.Turn.{same_default}
+use Rattle.ybitsets.proofs.Turn.{same_default}
 use Rattle.ylalr.proofs.LeftSteps.{noting_push, noting_all}
 use Rattle.ylalr.proofs.lefts.Lefts.fill.Goals as goal
 

@@ -1,0 +1,210 @@
+//! What words ask for.
+
+use crate::ending::Refused;
+use crate::forms::Form;
+use crate::values::{
+    NO_FOLDER, choice_in, drawn_in, grammar_in, input_in, is_given, kind_in, language_in,
+    messages_in, most_of, number_of, page_in, value_of,
+};
+use crate::{check, conflicts, cover, table};
+use clap::ArgMatches;
+use ydiagnostics::checking;
+use ydiagnostics::format::{Format, NO_FORM, form_of};
+use yfiles::reading::Limited;
+use yfrontend::import;
+use yhtml::page;
+use yhtml::walk::Part;
+use yinput::grammars::GrammarFile;
+use yinput::language::LanguageFiles;
+use ymessages::run as messages;
+use ysentences::run as sentences;
+use yskeleton::rules;
+
+/// What words ask for.
+#[derive(Drop)]
+pub enum Asked<'a> {
+    /// A session over the files of a language and an input.
+    Session(LanguageFiles<'a>, Limited<'a>),
+    /// A report on conflicts.
+    Conflicts(conflicts::Asked<'a>),
+    /// Verdicts on inputs.
+    Check(check::Asked<'a>),
+    /// Errors by example.
+    Errors(messages::Asked<'a>),
+    /// Sentences of a grammar.
+    Sentences(sentences::Asked<'a>),
+    /// What inputs use.
+    Cover(cover::Asked<'a>),
+    /// A page of a parse over the files of a language and an input.
+    Page(LanguageFiles<'a>, Limited<'a>, page::Asked<'a>),
+    /// An import.
+    Import(import::Asked<'a>),
+    /// The tokens of a text.
+    Tokens(LanguageFiles<'a>, Limited<'a>),
+    /// A sketch of how tokens look.
+    Sketch(GrammarFile<'a>),
+    /// Names for rules.
+    Rules(rules::Asked<'a>),
+    /// The files that `yacc` writes.
+    Table(table::Asked<'a>),
+}
+
+impl Asked<'_> {
+    /// Whether what is written is for people alone, so that long lines may be broken.
+    pub fn is_for_people(&self) -> bool {
+        match self {
+            Asked::Session(..) | Asked::Cover(_) => true,
+            Asked::Conflicts(asked) => form_of(asked.format) == Some(Format::Text),
+            Asked::Check(asked) => asked.inputs.format == Format::Text && !asked.plain,
+            _ => false,
+        }
+    }
+}
+
+/// A report on conflicts.
+fn conflicts_in<'m>(matches: &'m ArgMatches<'_>) -> Result<Asked<'m>, Refused> {
+    let asked = conflicts::Asked {
+        grammar: grammar_in(matches)?,
+        save: matches.get_str("save"),
+        strict: matches.get_str("strict").is_some(),
+        choice: choice_in(matches)?,
+        expect: matches.get_str("expect"),
+        accept: matches.get_str("accept"),
+        update: is_given(matches, "update"),
+        format: matches.get_str("format"),
+    };
+    match conflicts::wrong_in(asked) {
+        Some(wrong) => Err(Refused::Wrong(wrong)),
+        None => Ok(Asked::Conflicts(asked)),
+    }
+}
+
+/// Verdicts on inputs.
+fn check_in<'m>(matches: &'m ArgMatches<'_>) -> Result<Asked<'m>, Refused> {
+    let format = form_of(matches.get_str("format"));
+    let asked = check::Asked {
+        inputs: checking::Asked {
+            files: language_in(matches)?,
+            inputs: matches.get_strs("tokens").unwrap_or(&[]),
+            messages: matches.get_str("messages"),
+            most: most_of(matches)?,
+            shown: choice_in(matches)?.shown,
+            format: format.unwrap_or(Format::Text),
+        },
+        choice: is_given(matches, "choice"),
+        plain: is_given(matches, "plain"),
+    };
+    match format {
+        None => Err(Refused::Wrong(NO_FORM)),
+        Some(Format::Gcc | Format::Json) if asked.plain || asked.choice => {
+            Err(Refused::Wrong("--choice and --plain want --format text"))
+        }
+        Some(_) => Ok(Asked::Check(asked)),
+    }
+}
+
+/// Why options for errors don't go together, where they don't.
+fn wrong_in(asked: messages::Asked<'_>) -> Option<&'static str> {
+    let is_more = asked.complete || asked.update || asked.table.is_some();
+    if asked.messages.is_none() && is_more {
+        Some("--complete, --update and --table want --messages FILE")
+    } else if asked.update && asked.table.is_some() {
+        Some("--update and --table don't go together")
+    } else if asked.table == Some("") {
+        Some("--table wants the name of a file")
+    } else {
+        None
+    }
+}
+
+/// Errors by example.
+fn errors_in<'m>(matches: &'m ArgMatches<'_>) -> Result<Asked<'m>, Refused> {
+    let asked = messages::Asked {
+        files: language_in(matches)?,
+        messages: messages_in(matches)?,
+        complete: is_given(matches, "complete"),
+        update: is_given(matches, "update"),
+        table: matches.get_str("table"),
+    };
+    match wrong_in(asked) {
+        Some(wrong) => Err(Refused::Wrong(wrong)),
+        None => Ok(Asked::Errors(asked)),
+    }
+}
+
+/// Sentences of a grammar.
+fn sentences_in<'m>(matches: &'m ArgMatches<'_>) -> Result<Asked<'m>, Refused> {
+    let asked = sentences::Asked {
+        files: language_in(matches)?,
+        kind: kind_in(matches)?,
+        drawn: drawn_in(matches)?,
+        near: is_given(matches, "near"),
+        save: matches.get_str("save"),
+        strict: is_given(matches, "strict"),
+    };
+    if asked.save == Some("") {
+        return Err(Refused::Wrong(NO_FOLDER));
+    }
+    Ok(Asked::Sentences(asked))
+}
+
+/// What inputs use.
+fn cover_in<'m>(matches: &'m ArgMatches<'_>) -> Result<Asked<'m>, Refused> {
+    Ok(Asked::Cover(cover::Asked {
+        files: language_in(matches)?,
+        inputs: matches.get_strs("tokens").unwrap_or(&[]),
+        most: most_of(matches)?,
+        strict: is_given(matches, "strict"),
+    }))
+}
+
+/// A page of a parse.
+fn page_of<'m>(matches: &'m ArgMatches<'_>) -> Result<Asked<'m>, Refused> {
+    let (grammar, from) = page_in(matches)?;
+    let spec = matches.get_str("lex");
+    let files = LanguageFiles { grammar, spec };
+    let input = input_in(matches)?;
+    let to = number_of(matches, "last", "--last takes a position")?;
+    let asked = page::Asked {
+        file: matches.get_str("file"),
+        part: Part { from, to },
+        conflicts: is_given(matches, "conflicts"),
+    };
+    Ok(Asked::Page(files, input, asked))
+}
+
+/// What a form and what stands after it ask for.
+pub fn asked_in<'m>(form: Form, matches: &'m ArgMatches<'_>) -> Result<Asked<'m>, Refused> {
+    match form {
+        Form::Debug => {
+            let (files, input) = (language_in(matches)?, input_in(matches)?);
+            Ok(Asked::Session(files, input))
+        }
+        Form::Conflicts => conflicts_in(matches),
+        Form::Check => check_in(matches),
+        Form::Errors => errors_in(matches),
+        Form::Sentences => sentences_in(matches),
+        Form::Cover => cover_in(matches),
+        Form::Page => page_of(matches),
+        Form::Import => Ok(Asked::Import(import::Asked {
+            file: value_of(matches, "file")?,
+            output: matches.get_str("output"),
+            shown: choice_in(matches)?.shown,
+        })),
+        Form::Tokens => {
+            let (files, input) = (language_in(matches)?, input_in(matches)?);
+            Ok(Asked::Tokens(files, input))
+        }
+        Form::Sketch => Ok(Asked::Sketch(grammar_in(matches)?)),
+        Form::Rules => Ok(Asked::Rules(rules::Asked {
+            grammar: grammar_in(matches)?,
+            header: matches.get_str("header"),
+            python: matches.get_str("python"),
+        })),
+        Form::Table => Ok(Asked::Table(table::Asked {
+            grammar: value_of(matches, "grammar")?,
+            prefix: matches.get_str("prefix").unwrap_or("y"),
+            report: is_given(matches, "v"),
+        })),
+    }
+}

@@ -1,5 +1,0 @@
-use Rattle.std.proofs.Common.{◌-◌, length}
-use Rattle.yrows.proofs.packed.displacement_for.Given as goal
-
-abbrev pub decreases-loop-d : goal.decreases-loop-d
-decreases-loop-d g l = length l.owners - l.d
