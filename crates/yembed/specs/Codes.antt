@@ -15,6 +15,10 @@ pub record IsCodeOf (grammar : List ℕ) (code : Code) : Type 0 where
   pub says : IsCode tables code
   pub value : code ≡ code_for tables
 
+-- the arrays are those of no other parser: whatever arrays a call has for these bytes are these
+abbrev pub IsOnlyCode : List ℕ → Code → Type 0
+IsOnlyCode grammar code = (other : Code) → IsCodeOf grammar other → other ≡ code
+
 -- the numbers are those of the array with this number; there are 14
 pub record IsArrayOf (code : Code) (array : ℕ) (list : List ℕ) : Type 0 where
   pub action_rows : array ≡ 0 → list ≡ code.actions.rows
@@ -40,9 +44,10 @@ pub record HasSizes (code : Code) (sizes : Sizes) : Type 0 where
   pub tokens : sizes.tokens ≡ code.tokens
   pub span : sizes.span ≡ code.span
 
--- the numbers are those of an array of the parser of the grammar that these bytes mean
+-- the numbers are those of an array of the one parser of the grammar that these bytes mean
 pub record IsArray (grammar : List ℕ) (array : ℕ) (sizes : Sizes) (numbers : List ℕ) : Type 0 where
   pub code : Code
   pub is : IsCodeOf grammar code
+  pub only : IsOnlyCode grammar code
   pub of : IsArrayOf code array numbers
   pub has : HasSizes code sizes

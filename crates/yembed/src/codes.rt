@@ -1,7 +1,7 @@
 //! The arrays of a parser in C.
 
 ghost use Rattle.std.specs.Prelude.{◌≡◌, IfOk, IfErr};
-ghost use Rattle.yembed.specs.Codes.{HasSizes, IsArrayOf, IsCodeOf};
+ghost use Rattle.yembed.specs.Codes.{HasSizes, IsArrayOf, IsCodeOf, IsOnlyCode};
 ghost use Rattle.yembed.specs.Refusals.{LacksTables};
 
 use crate::refusal::Refusal;
@@ -26,6 +26,7 @@ pub struct Sizes {
 /// The arrays of the parser of a grammar.
 pub(crate) fn arrays_of(alloc: Global, grammar: &[u8]) -> Result<Code, Refusal>
     ensures code { IfOk result (IsCodeOf grammar.now) }
+    ensures only { IfOk result (IsOnlyCode grammar.now) }
     ensures refused { IfErr result (LacksTables grammar.now) }
 {
     let tables = match tables_of(alloc, grammar) {

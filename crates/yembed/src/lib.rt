@@ -113,7 +113,8 @@ pub extern "C" fn sulderko_report(
 
 /// An array of the parser in C by the tables of a grammar, as the program `ycc` writes it, and the
 /// numbers by which the arrays are read. There are 14 arrays, from 0 on; another number has an array
-/// without numbers.
+/// without numbers. The bytes of a grammar fix all of them, so all calls hand over arrays of one
+/// parser.
 #[unsafe(no_mangle)]
 pub extern "C" fn sulderko_code(
     alloc: Global,
