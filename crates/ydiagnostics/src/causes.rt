@@ -119,10 +119,13 @@ impl Scene<'_> {
         let (grammar, kind) = (asked.grammar(), &block.first.kind);
         let mut rivals = Vec::new(self.alloc);
         for item in asked.items() {
-            let mut entries = block.classes.iter().flat_map(|class| class.entries.iter());
             let next = next_of(grammar, *item);
-            let shifts = kind.shift && entries.any(|entry| next == Some(entry.kind.token));
-            if shifts && rivals.len() < MOST_RIVALS {
+            let mut is_meant = false;
+            for class in &block.classes {
+                let mut entries = class.entries.iter();
+                is_meant = is_meant || entries.any(|entry| next == Some(entry.kind.token));
+            }
+            if kind.shift && is_meant && rivals.len() < MOST_RIVALS {
                 rivals.push(self.rival("shift", true, *item)?)?;
             }
         }
@@ -190,16 +193,19 @@ impl Scene<'_> {
     /// Sentences for rivals: one with two trees, where it was found, or one for each.
     fn sentences(self, answers: &[Answer]) -> Made<Vec<SentenceSheet>> {
         let (mut sentences, mut told) = (Vec::new(self.alloc), Vec::new(self.alloc));
-        if let Some(twins) = answers.iter().find_map(|answer| answer.twins.as_ref()) {
-            let (one, trees) = (&twins.sentence, twins.trees);
-            sentences.push(self.sentence(one.choice, one, Some(trees.0))?)?;
-            sentences.push(self.sentence(twins.second, one, Some(trees.1))?)?;
-            return Ok(sentences);
-        }
-        for one in answers.iter().flat_map(|answer| answer.sentences.iter()) {
-            if !told.contains(&one.choice) {
-                told.push(one.choice)?;
-                sentences.push(self.sentence(one.choice, one, None)?)?;
+        for answer in answers {
+            if let Some(twins) = &answer.twins {
+                let (one, trees) = (&twins.sentence, twins.trees);
+                sentences.clear();
+                sentences.push(self.sentence(one.choice, one, Some(trees.0))?)?;
+                sentences.push(self.sentence(twins.second, one, Some(trees.1))?)?;
+                return Ok(sentences);
+            }
+            for one in &answer.sentences {
+                if !told.contains(&one.choice) {
+                    told.push(one.choice)?;
+                    sentences.push(self.sentence(one.choice, one, None)?)?;
+                }
             }
         }
         Ok(sentences)
