@@ -199,15 +199,7 @@ impl<'a> Chooser<'a> {
             if is_done || !self.seeker.finder.has_steps() {
                 continue;
             }
-            // the end counts for one token
-            let sought = if place.length > MOST_TOKENS.saturating_add(1) {
-                Sought::Long
-            } else {
-                let tables = self.trier.session.tables();
-                let form = contexts.form(self.alloc, grammar_of(tables), place.rule)?;
-                self.seeker.sentence(tables, &form)?
-            };
-            match sought {
+            match self.rule_sentence(&contexts, *place)? {
                 Sought::Sentence(tokens) => self.offer(tokens)?,
                 _ => self.miss(Kind::Rules, place.rule, Missing::Long),
             }
@@ -222,6 +214,17 @@ impl<'a> Chooser<'a> {
         let contexts = Contexts::new(alloc, grammar, shortest)?;
         let order = contexts.order(alloc, grammar, shortest)?;
         Ok((contexts, order))
+    }
+
+    /// The shortest sentence of a rule.
+    fn rule_sentence(&self, contexts: &Contexts, place: Place) -> Made<Sought> {
+        // the end counts for one token
+        if place.length > MOST_TOKENS.saturating_add(1) {
+            return Ok(Sought::Long);
+        }
+        let tables = self.trier.session.tables();
+        let form = contexts.form(self.alloc, grammar_of(tables), place.rule)?;
+        self.seeker.sentence(tables, &form)
     }
 
     /// Notes why an element of a kind isn't used, where that is the kind that is wanted.
@@ -261,12 +264,7 @@ impl<'a> Chooser<'a> {
                 self.seek(*goal, rule)?;
             }
             let is_marked = marks.get(rule).copied().unwrap_or(false);
-            let grammar = grammar_of(self.trier.session.tables());
-            let is_live = match left_of(grammar, rule) {
-                Some(left) => is_reachable(grammar, left),
-                None => false,
-            };
-            if !is_live {
+            if !self.is_live(rule) {
                 self.miss(Kind::Rules, rule, Missing::Unreachable);
             } else if goals.of(rule).is_empty() && !is_marked {
                 self.miss(Kind::Rules, rule, Missing::Lost);
@@ -285,6 +283,15 @@ impl<'a> Chooser<'a> {
             }
         }
         Ok(marks)
+    }
+
+    /// Whether the left side of a rule can be reached.
+    fn is_live(&self, rule: usize) -> bool {
+        let grammar = grammar_of(self.trier.session.tables());
+        match left_of(grammar, rule) {
+            Some(left) => is_reachable(grammar, left),
+            None => false,
+        }
     }
 
     /// The first cells that reduce by each rule that no sentence uses.
