@@ -14,6 +14,8 @@ mod shelf;
 use crate::laid::{Laid, laid_out};
 use crate::shelf::Shelf;
 use std::alloc::Global;
+use std::io::Read;
+use std::rt::Files;
 use ycommandline::{Given, Refused, Setting, status_of};
 
 /// The status where the words or the files aren't laid out as they are to be. No run has it.
@@ -34,20 +36,21 @@ struct Run {
     status: u8,
 }
 
-/// A run of `ydebug` by these words, over these files and this input.
-fn run_of(alloc: Global, laid: &Laid<'_, '_>, input: &[u8]) -> Run {
-    let shelf = Shelf {
-        alloc,
-        files: &laid.files,
-    };
+/// A run of `ydebug` by these words, over files and an input.
+fn run_over<F: Files + AllocGlobal + Clone + Drop, R: Read + Drop>(
+    rt: &F,
+    words: &[&str],
+    input: R,
+) -> Run {
+    let alloc = rt.alloc();
     let mut given = Given {
-        rt: &shelf,
+        rt,
         input,
         errors: Vec::new(alloc),
         setting: SETTING,
     };
     let mut out = Vec::new(alloc);
-    let ended = given.obey(&laid.words, &mut out);
+    let ended = given.obey(words, &mut out);
     let status = status_of(ended, &mut given.errors);
     let Given { errors, .. } = given;
     Run {
@@ -55,6 +58,12 @@ fn run_of(alloc: Global, laid: &Laid<'_, '_>, input: &[u8]) -> Run {
         errors,
         status,
     }
+}
+
+/// A run of `ydebug` by words, over files and an input that are laid out.
+fn run_of(alloc: Global, laid: &Laid<'_, '_>, input: &[u8]) -> Run {
+    let files = &laid.files;
+    run_over(&Shelf { alloc, files }, &laid.words, input)
 }
 
 /// A run that came to nothing.
