@@ -126,7 +126,7 @@ def judged(wanted, status, said):
     if (status == 1) != refused or status > 1:
         return f"status {status}"
     if refused:
-        return None if "refused: " in said and STAY not in said else "not told"
+        return None if ": error: " in said and STAY not in said else "not told"
     if (STAY in said) != stay or (MAY_NOT in said) == stay:
         return f"conflicts {'stay' if stay else 'do not stay'}"
     ours = said_counts(said, 99999)

@@ -93,7 +93,7 @@ class Cells(Planted):
             look((False, True, (2, 1))), (0, stays), (0, may_not), (1, stays), (0, swapped)
         )
         self.each_caught(look((False, False, (2, 1))), (0, may_not), (0, stays), (2, may_not))
-        refused = 1, "g.y:3: refused: a cell\n"
+        refused = 1, "g.y:3: error: a cell\n"
         self.each_caught(
             look((True, True, (2, 1))), refused, (0, refused[1]), (1, "no\n"), (1, stays)
         )
