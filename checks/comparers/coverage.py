@@ -265,7 +265,8 @@ def wrong_unused(machine, kind, used, lines):
     met = machine.found().of(kind) & told.keys()
     lost, free = machine.checked.lost(), not machine.has_choice()
     for part, line in told.items():
-        if part in met and line.startswith(IMPOSSIBLE):
+        # the sentence that was made has `error`; another one may have none
+        if part in met and line.startswith(IMPOSSIBLE[1:]):
             return f"a sentence uses it: {line}"
         if kind == "rules" and (part in lost) != line.startswith(IMPOSSIBLE[2]):
             return f"lost or not: {line}"
