@@ -11,6 +11,7 @@
 # make parsers    compares the steps of parsers that ycc makes with those of ystep, over scenarios and 2,000 grammars at random, their messages for errors with those of ydebug, and builds the calculator of examples/calculator-c in every way; some minutes
 # make features   builds small programs, each of which uses a feature of bison's or byacc's files, by the peer and by ycc, and compares what they do; it takes bison, byacc and a C compiler; some minutes
 # make packages   builds some source packages of Debian with parsers that ycc makes and with those of byacc or bison, runs their own tests, and gives both builds 300 spoiled inputs for each program; PACKAGES="bc units" names some. It takes a network, byacc, bison, flex, cmake, automake and meson
+# make drawn      draws 35 source packages of Debian that use bison or byacc, makes each of their parsers by ycc too, compiles both, and says why one differs; PACKAGES="bc units" names some. It takes a network, byacc, bison, and a while
 # make drivers    builds the drivers in C and Python, and compares their steps with those of ystep, over scenarios, at random and by tables that are wrong
 # make library    proves the crate yembed and leaves libsulderko.a and libsulderko.so.1 in bin/: the proved core for programs in C and Python
 # make wheel      makes a wheel of the module in Python in bin/, with the library in it; PYTHON names a Python that has build, setuptools and wheel
@@ -24,13 +25,13 @@
 # make imports    imports grammars drawn at random, for a minute, and those of some source packages of Debian, by the programs that make build left, and compares their tables with bison's; FILES="a.y b.y" or PACKAGES="bash" names others. It takes bison and a network
 # make hostile    runs both programs, proved, between devices that fail and on hostile files and streams, and ydebug on full disks and pipes that nobody reads
 # make edits      tries every mutant that the prover must refuse, also those that the gate leaves out, over the libraries that the gate left
-# make quick      what can run before anything is proved: the scenarios and the tests, built without proof, the tests of the checks, whether each mutant can be applied; ten minutes. It is not the gate
+# make quick      what can run before anything is proved: the scenarios and the tests, built without proof, the tests of the checks, whether each mutant can be applied; some twenty minutes. It is not the gate
 # make selftest   gives each check wrong answers, which it has to catch; a minute and a half
 # make try-install   tries make install, uninstall and dist in an empty folder, by the programs that make build left
 # make test       the gate: every proof from nothing, the mutants, the tests, the stored runs, make selftest, the scenarios, make hostile, make refuse over three examples, the allocations of every session, the parsers, the drivers, each comparison for half a minute at most, and the pages where there is a browser
 #
 # python3 -m checks --help lists all checks as commands; python3 -m checks scenario NAME runs one scenario.
-.PHONY: quick demo examples scenarios accept build bench refuse debug page-test compare parsers features packages drivers library library-test playground playground-test wheel install uninstall dist deb deb-test imports hostile edits selftest try-install test
+.PHONY: quick demo examples scenarios accept build bench refuse debug page-test compare parsers features packages drawn drivers library library-test playground playground-test wheel install uninstall dist deb deb-test imports hostile edits selftest try-install test
 
 # The checks, and where `make build` leaves a program. Without a path a check takes crates/NAME/out/NAME.
 checks := python3 -m checks
@@ -93,6 +94,9 @@ features: build
 
 packages: build
 	@$(checks) packages $(call at,ycc) $(PACKAGES)
+
+drawn: build
+	@$(checks) drawn $(call at,ycc) $(PACKAGES)
 
 objects := bin/ydriver.o bin/ydmessages.o
 $(objects): bin/%.o: drivers/c/%.c drivers/c/ydriver.h drivers/c/ydmessages.h

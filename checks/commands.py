@@ -41,6 +41,7 @@ GROUPS = {
     "bison, byacc, and packages that use them": {
         "features": "peers.features",
         "packages": "peers.packages",
+        "drawn": "peers.drawn",
         "cells": "peers.cells",
         "imports": "peers.imports",
     },

@@ -52,9 +52,12 @@ def spent_by(pid):
 
 def children_of(pid):
     """The processes that the threads of one have begun."""
-    for file in Path(f"/proc/{pid}/task").glob("*/children"):
-        with suppress(OSError):
-            yield from map(int, file.read_text().split())
+    # A process may end while its threads are read.
+    with suppress(OSError):
+        for thread in os.listdir(f"/proc/{pid}/task"):
+            with suppress(OSError):
+                file = Path(f"/proc/{pid}/task/{thread}/children")
+                yield from map(int, file.read_text().split())
 
 
 def below(pid):

@@ -1,5 +1,6 @@
 """Source packages of Debian, fetched by `apt-get` over lists of its own."""
 import tarfile
+from threading import Lock
 
 from checks.shared.running import ran
 
@@ -16,10 +17,11 @@ class Unfetched(Exception):
 
 
 class Apt:
-    """`apt-get` with all that it keeps below a folder: nothing of the machine changes."""
+    """`apt-get` with all that it keeps below a folder: nothing of the machine changes. Threads that
+    share one wait for each other."""
 
     def __init__(self, room):
-        self.room = room
+        self.room, self.lock = room, Lock()
         for name in ("lists/partial", "cache/archives/partial", "parts", "source"):
             (room / name).mkdir(parents=True)
         (room / "parts" / "source.sources").write_text(SOURCES)
@@ -36,9 +38,17 @@ class Apt:
         }
         words = [it for name, value in options.items() for it in ("-o", f"{name}={value}")]
         words = ["apt-get", *words, word, *more]
-        made = ran(words, folder)
+        with self.lock:
+            made = ran(words, folder)
         if made.returncode or "Err:" in made.stdout:
             raise Unfetched((made.stderr or made.stdout).strip().splitlines()[-1])
+        return made.stdout
+
+    def index(self):
+        """What Debian tells of all source packages: a paragraph each."""
+        words = "--format", "$(FILENAME)", "Created-By: Sources"
+        files = self.run("indextargets", self.room, *words).split()
+        return ran(["/usr/lib/apt/apt-helper", "cat-file", *files], self.room).stdout
 
     def folder_of(self, package):
         """A new folder for a package."""

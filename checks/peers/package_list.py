@@ -7,6 +7,8 @@ from typing import Callable
 from checks.peers.package_inputs import Design, Reader
 from checks.peers.package_tests import awk_tests, lines_told, made, whole
 from checks.peers.package_texts import (
+    FILTERS,
+    JQ_PROGRAMS,
     PICTURES,
     SUMS,
     definitions,
@@ -117,6 +119,24 @@ printf 'include Makefile\\nbuilt: $(BUILT_SOURCES)\\n' > built.mk
 make -f built.mk built
 make eqn pic"""
 GROFF_MADE = [f"src/preproc/{it}.{kind}pp" for it in ("eqn/eqn", "pic/pic") for kind in "ch"]
+
+# --- gawk: a test that fails leaves a file. It writes what it has read, and runs nothing.
+GAWK_BUILD = f"""./configure --disable-mpfr --disable-nls --disable-extensions {SETTLED}
+make SUBDIRS='support .'"""
+GAWK_TESTS = "make -k -C test check > checked 2>&1\nls test | grep '^_' || true"
+
+# --- jq: its makefile makes the parser again for maintainers alone.
+JQ_BUILD = "autoreconf -i\n./configure --enable-maintainer-mode --without-oniguruma\nmake"
+
+# --- libxkbcommon: what needs X11, Wayland or a registry isn't built.
+XKB_LEFT_OUT = "x11 wayland xkbregistry docs bash-completion"
+XKB_OPTIONS = " ".join(f"-Denable-{it}=false" for it in XKB_LEFT_OUT.split())
+XKB_BUILD = f"meson setup out {XKB_OPTIONS}\nninja -C out"
+XKB_ENDS = "[a-z0-9:-]+ +(OK|FAIL|SKIP|TIMEOUT|ERROR) "
+XKB_TESTS = f"meson test -C out --no-rebuild | grep -Eo '{XKB_ENDS}' | sort"
+
+# --- libpcap: a program of its own reads an expression and prints the code for it.
+PCAP_BUILD = "cmake -B out -DBUILD_SHARED_LIBS=OFF -DDISABLE_DBUS=ON .\nmake -C out filtertest"
 
 # --- byacc: the grammars of its tests whose parsers run, and those that are compiled. The others
 # are for btyacc, or to be refused, or have what ycc refuses: `%<` and `%0` for words (ok_syntax1,
@@ -245,6 +265,51 @@ PACKAGES = [
         stale=tuple(GROFF_MADE),
         build=GROFF_BUILD,
         readers=(Reader("eqn", ("input",), equations), Reader("pic", ("input",), PICTURES)),
+    ),
+    Package(
+        name="mawk",
+        source="mawk",
+        stale=("parse.c", "parse.h"),
+        build="./configure YACC=yacc\nmake mawk",
+        tests=partial(whole, ["make mawk_test", "make fpe_test"]),
+        # No text of these runs another program, or writes a file.
+        readers=(Reader("mawk", ("-f", "input"), files("test/[!n]*.awk", "examples/ct*")),),
+    ),
+    Package(
+        name="gawk",
+        source="gawk",
+        stale=("awkgram.c", "command.c"),
+        build=GAWK_BUILD,
+        tests=partial(whole, [GAWK_TESTS]),
+        readers=(Reader("gawk", ("-S", "-o-", "-f", "input"), files("test/*.awk")),),
+    ),
+    Package(
+        name="jq",
+        source="jq",
+        stale=("src/parser.c", "src/parser.h"),
+        needs=("automake", "flex"),
+        build=JQ_BUILD,
+        tests=partial(lines_told, "NO_VALGRIND=1 make check", ""),
+        readers=(Reader("jq", ("-n", "-f", "input"), JQ_PROGRAMS),),
+    ),
+    Package(
+        name="libxkbcommon",
+        source="libxkbcommon",
+        needs=("meson", "ninja"),
+        build=XKB_BUILD,
+        tests=partial(whole, [XKB_TESTS]),
+        readers=(
+            Reader(
+                "out/xkbcli-compile-keymap", ("--from-xkb",), files("test/data/keymaps/*.xkb")
+            ),
+        ),
+    ),
+    Package(
+        name="libpcap",
+        source="libpcap",
+        needs=("cmake", "flex"),
+        build=PCAP_BUILD,
+        readers=(Reader("out/run/filtertest", ("-F", "input", "EN10MB"), FILTERS),),
     ),
     Package(
         name="byacc",

@@ -68,6 +68,35 @@ def equations(folder):
 
 PICTURES = parts(rb"(?ms)^\.PS.*?^\.PE\n", "doc/pic.ms")
 
+# --- jq's programs, each the first line of a test
+JQ_PROGRAMS = parts(rb"(?m)^\n+((?!#)[^\n]+)\n[^\n]+\n", "tests/jq.test")
+
+# --- libpcap: expressions with each construct of its language
+FILTERS = given(
+    *rb"""
+host 10.0.0.1 and not (port 80 or port 443)
+src net 192.168.0.0/16 and dst net 10.0.0.0 mask 255.0.0.0
+tcp[tcpflags] & (tcp-syn|tcp-fin) != 0 and not src and dst net 127.0.0.0/8
+tcp port 80 and (((ip[2:2] - ((ip[0]&0xf)<<2)) - ((tcp[12]&0xf0)>>2)) != 0)
+ether host 00:11:22:33:44:55 and ether proto 0x0800
+ip6 host fe80::1 or ip6 net 2001:db8::/32
+vlan 100 && vlan 200 and udp portrange 1000-2000
+mpls 100000 && mpls 1024 and host 192.9.200.1
+icmp[icmptype] != icmp-echo and icmp[icmptype] != icmp-echoreply
+ether[0] & 1 = 0 and ip[16] >= 224
+less 128 or greater 1500
+ip broadcast or ether multicast or ip6 multicast
+ip proto \tcp or ip6 proto 17 or ip protochain 6
+arp host 1.2.3.4 or rarp or decnet host 1.2
+sctp src port 5060 or dst port 25 or 53 or 80
+len > 100 and len <= 1000 - 3 * 2 / 1 % 7
+pppoes 3 and ip and geneve 5 and tcp
+gateway localhost or net 10 or 1.2.3.4
+(tcp or udp) and not port 22 or ! arp
+tcp[0:2] = 80 or - tcp[13] = 2 ^ 1 << 1
+""".strip().splitlines()
+)
+
 # --- the calculators of byacc's tests, which come without a text, and of bison's examples
 SUMS = given(
     b"1 + 2 * 3\na = 5\na * 2 - (1 + 7) / 2\n010 + 011\n1 + + 2\nb = a & 3 | 4\n7 % 4\n(3\n-a\n"

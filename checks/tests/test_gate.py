@@ -197,6 +197,7 @@ check("--crate-name", "high", "--test")
         began = {it.crate: it.began for it in reversed(seen) if it.kind == clock.PROOF}
         self.assertLess(max(began["low"], began["other"]), began["high"])
         self.assertTrue(any(it.began < it.ended for it in seen), seen)
+        self.assertEqual([*clock.below(running.pid)], [], "it has ended, and nothing is below it")
 
     def test_kinds(self):
         """Words and folders say what a check is for, and another program is none."""

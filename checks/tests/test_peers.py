@@ -5,7 +5,7 @@ from pathlib import Path
 from types import SimpleNamespace
 from unittest import mock
 
-from checks.peers import automata, bison, cells, features, imports, package_inputs, packages
+from checks.peers import automata, bison, cells, drawn, features, imports, package_inputs, packages
 from checks.peers.automata import Automaton
 from checks.peers.cells import Comparison
 from checks.peers.package_inputs import Case, Outcome
@@ -297,3 +297,55 @@ class Packages(Planted):
         rng = random.Random(1)
         spoiled = [package_inputs.spoil(b"a + b * 12", [b"x y"], rng) for _ in range(40)]
         self.assertGreater(len({*spoiled}), 10)
+
+
+class Drawn(Planted):
+    """Packages of an index, and parsers that differ."""
+
+    INDEX = """Package: one
+Build-Depends: debhelper (>= 9),
+ bison, libbison-dev
+Files:
+ 00112233445566778899aabbccddeeff 120 one.dsc
+ 00112233445566778899aabbccddeeff 3000 one.tar.xz
+
+Package: two
+Build-Depends: libbison-dev, bisonc++, byacc-j
+
+Package: three
+Build-Depends-Arch: byacc [linux-any]
+"""
+
+    def test_users(self):
+        """The generator and the size of each user, and no package that only sounds like one."""
+        apt = SimpleNamespace(index=lambda: self.INDEX)
+        found = [(it.name, it.generator, it.size) for it in drawn.users(apt)]
+        self.assertEqual(found, [("one", "bison", 3120), ("three", "byacc", 0)])
+        given = SimpleNamespace(words=[], most=0.003, seed=1)
+        self.assertEqual([it.name for it in drawn.drawn(drawn.users(apt), given)], ["three"])
+
+    def test_outside(self):
+        """What asks for another parser, and what only speaks of one."""
+        for text, name in (
+            (b"%glr-parser\n%%", "GLR"),
+            (b'%language "c++"\n', "C++"),
+            (b'%language "Java"\n', "another language"),
+            (b"%define api.push-pull push\n", "a push parser"),
+            (b"/* %glr-parser */ %{ %glr-parser %}\n%%", ""),
+            (b'%skeleton "yacc.c"\n%language "C"\n', ""),
+        ):
+            self.assertEqual(drawn.outside(text), name)
+
+    def test_verdicts(self):
+        """A refusal, other numbers and an error more of ours; errors of both don't count."""
+        peer = drawn.Made(tokens=(("A", "258"),), errors=("x", "x"))
+        self.assertEqual(drawn.verdict(peer, peer)[0], "alike")
+        self.assertEqual(drawn.verdict(drawn.Made(tokens=peer.tokens), peer)[0], "alike")
+        for ours, word in (
+            (drawn.Made(refusal="no"), "refused"),
+            (drawn.Made(tokens=(("A", "259"),)), "other tokens"),
+            (drawn.Made(tokens=peer.tokens, errors=("x", "x", "x")), "doesn't compile"),
+            (drawn.Made(tokens=peer.tokens, errors=("y",)), "doesn't compile"),
+        ):
+            self.assertEqual(drawn.verdict(ours, peer)[0], word)
+        self.assertEqual(drawn.verdict(peer, drawn.Made(refusal="no"))[0], "not counted")

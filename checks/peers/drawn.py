@@ -1,0 +1,253 @@
+"""Draws source packages of Debian that use bison or byacc, and makes each of their parsers twice.
+
+    drawn [--packages N] [--seed N] [--most MB] [--jobs N] [--keep FOLDER] [ycc=PATH] [PACKAGE..]
+
+N packages (35) whose sources take at most MB (12) are drawn by a seed (1) from those that name
+bison, byacc or btyacc among what they build with, or those that are named are taken. `configure` is
+run where there is one. Each grammar in a package's source goes through the program that the package
+asks for, and through `ycc` by that program's name: both have to take it, to give the same tokens
+the same numbers, and to write a parser that compiles, with what is there; where the package needs
+headers that this machine lacks, ours has to come to no error that the other doesn't. What is no
+LALR parser in C (GLR, C++, another language), and what the package's own program refuses, is named
+and not counted. A package passes if all of its grammars do. It takes a network, bison, byacc and a
+C compiler, and isn't part of the gate. The line before the last is the share; the last is
+`N passed, M failed`.
+"""
+import os
+import random
+import re
+import tempfile
+from collections import Counter
+from concurrent.futures import ThreadPoolExecutor
+from contextlib import ExitStack, suppress
+from dataclasses import dataclass
+from functools import partial
+from pathlib import Path
+from subprocess import TimeoutExpired
+
+from checks.peers.debian import Apt, Unfetched
+from checks.shared.arguments import asked
+from checks.shared.running import ran
+from checks.shared.tally import Tally
+
+USES = re.compile(r"(?<![\w.+-])(bison|byacc|btyacc)(?![\w.+-])")
+FIELD = re.compile(r"(?m)^([\w-]+):[ \t]*(.*(?:\n[ \t].*)*)")
+SIZE = re.compile(r"(?m)^ [0-9a-f]{32} (\d+) \S+$")
+ENDINGS = {".y", ".yy", ".yacc", ".ypp", ".yxx", ".y++"}
+# What says that a parser isn't one of LALR in C, each with its name.
+OUTSIDE = {
+    "GLR": re.compile(rb"%glr-parser|%skeleton\s*\"glr"),
+    "C++": re.compile(rb"%skeleton\s*\"(?:lalr1|glr2?)\.cc\"|%language\s*\"[cC]\+\+\""),
+    "another language": re.compile(rb"%language\s*\"(?i:java|d)\"|%skeleton\s*\"(?!yacc\.c)"),
+    "a push parser": re.compile(rb"api\.push.pull"),
+    "another kind of tables": re.compile(rb"%define\s+lr\.type\s+\"?(?:ielr|canonical)"),
+}
+# Comments, strings and code, in which no directive stands.
+ASIDE = re.compile(rb"/\*.*?\*/|//[^\n]*|%\{.*?%\}", re.S)
+TOKEN = re.compile(r"(?m)^(?:#define\s+|\s+)(\w+)\s*(?:=\s*)?(\d+)\s*(?:,|/\*.*)?$")
+ERROR = re.compile(r"(?m)^[^\n:]*:(?:\d+:)*\s*(?:fatal )?error: (.*)$")
+LACKING = re.compile(r"fatal error: (\S+): No such file")
+# The most folders that are searched for headers, and how many of these are made up where they lack.
+FOLDERS, MADE_UP, CONFIGURES, COMPILES = 150, 25, 240, 60
+
+
+@dataclass(frozen=True)
+class User:
+    """A package that uses a parser generator: its name, the generator's, and how large it is."""
+
+    name: str
+    generator: str
+    size: int
+
+
+@dataclass(frozen=True)
+class Made:
+    """What a program made of a grammar: a refusal, its tokens' numbers, a compiler's errors."""
+
+    refusal: str = ""
+    tokens: tuple = ()
+    errors: tuple = ()
+
+
+# --- which packages there are
+def user_of(paragraph):
+    """The user of a generator that a paragraph of Debian's index tells, or None."""
+    fields = dict(FIELD.findall(paragraph))
+    depends = " ".join(it for name, it in fields.items() if name.startswith("Build-Depends"))
+    named = USES.findall(depends)
+    if not named:
+        return None
+    size = sum(map(int, SIZE.findall(fields.get("Files", ""))))
+    return User(fields["Package"], "bison" if "bison" in named else "byacc", size)
+
+
+def users(apt):
+    """The packages that use a generator, by their names."""
+    found = {}
+    for paragraph in apt.index().split("\n\n"):
+        user = user_of(paragraph)
+        if user:
+            found[user.name] = user
+    return [found[name] for name in sorted(found)]
+
+
+def drawn(every, given):
+    """Packages in the order in which they are drawn, or those that are named."""
+    if given.words:
+        return [it for it in every if it.name in given.words]
+    small = [it for it in every if it.size <= given.most * 1_000_000]
+    random.Random(given.seed).shuffle(small)
+    return small
+
+
+# --- one grammar, made by one program
+def outside(text):
+    """Why a parser isn't one of LALR in C, or nothing."""
+    bare = ASIDE.sub(b" ", text)
+    return next((name for name, sign in OUTSIDE.items() if sign.search(bare)), "")
+
+
+def grammars(folder):
+    """The grammar files of a package."""
+    for file in sorted(folder.rglob("*")):
+        if file.suffix in ENDINGS and file.is_file() and not file.is_symlink():
+            if re.search(rb"(?m)^%%", file.read_bytes()):
+                yield file
+
+
+def folders_of_headers(folder):
+    """The folders of a package that have headers."""
+    found = sorted({it.parent for it in folder.rglob("*.h")}, key=lambda it: (len(it.parts), it))
+    return found[:FOLDERS]
+
+
+def names_of_header(stem):
+    """The names by which a package may include the header of its parser."""
+    return f"{stem}.h", f"{stem}.tab.h", f"{stem}.hh", "y.tab.h", f"{stem}_tab.h", f"{stem}-tab.h"
+
+
+def first_error(text):
+    """The first line of a message that tells an error, without places."""
+    found = ERROR.search(text)
+    return found[1] if found else (text.strip().splitlines() or ["nothing is said"])[-1]
+
+
+def compiled(room, file, package):
+    """The errors of a compiler on a parser; headers that lack are made up, empty."""
+    parts = ["-I.", f"-I{file.parent}", *(f"-I{it}" for it in folders_of_headers(package))]
+    config = ["-DHAVE_CONFIG_H"] if any(package.rglob("config.h")) else []
+    said = ""
+    for _ in range(MADE_UP):
+        words = ["cc", "-w", "-fsyntax-only", "-fmax-errors=0", *config, *parts, "parser.c"]
+        said = ran(words, room, timeout=COMPILES).stderr
+        lacking = LACKING.search(said)
+        if not lacking or lacking[1].startswith(("/", "..")):
+            break
+        (room / lacking[1]).parent.mkdir(parents=True, exist_ok=True)
+        (room / lacking[1]).write_text("")
+    return tuple(sorted(ERROR.findall(said)))
+
+
+def made_by(command, room, file, package):
+    """What a program makes of a grammar, in a folder of its own."""
+    room.mkdir(parents=True)
+    made = ran([*command, "-d", "-o", f"{room}/parser.c", file.name], file.parent, timeout=COMPILES)
+    if made.returncode or not (room / "parser.c").exists():
+        return Made(refusal=first_error(made.stderr))
+    header = room / "parser.h"
+    text = header.read_text(errors="replace") if header.exists() else ""
+    for name in names_of_header(file.stem):
+        if header.exists() and not (room / name).exists():
+            (room / name).write_text(text)
+    return Made(tokens=tuple(sorted(TOKEN.findall(text))), errors=compiled(room, file, package))
+
+
+# --- what came of it
+def verdict(ours, peer):
+    """A word for how a parser of ours stands to its peer's, and the reason."""
+    if peer.refusal:
+        return "not counted", f"its own program refuses it: {peer.refusal}"
+    if ours.refusal:
+        return "refused", ours.refusal
+    if ours.tokens != peer.tokens:
+        other = sorted({*ours.tokens} ^ {*peer.tokens})[:4]
+        return "other tokens", ", ".join(" ".join(it) for it in other)
+    more = Counter(ours.errors) - Counter(peer.errors)
+    if more:
+        return "doesn't compile", min(more)
+    return "alike", f"{len(peer.errors)} errors of what isn't here" if peer.errors else ""
+
+
+def looked_at(user, file, room, package, ycc):
+    """The word and the reason of one grammar."""
+    why = outside(file.read_bytes())
+    if why:
+        return "not counted", why
+    ours = [ycc, "--bison"] if user.generator == "bison" else [ycc]
+    late = Made(refusal=f"it takes more than {COMPILES} seconds")
+    made = []
+    for command, name in ((ours, "ours"), ([user.generator], "peer")):
+        try:
+            made.append(made_by(command, room / name, file, package))
+        except TimeoutExpired:
+            made.append(late)
+    return verdict(*made)
+
+
+def configure(package):
+    """Runs the `configure` of a package, whatever comes of it."""
+    if (package / "configure").exists():
+        with suppress(TimeoutExpired):
+            ran(["sh", "./configure"], package, timeout=CONFIGURES)
+
+
+def counted(user, apt, given):
+    """The words of a package's grammars; each is told."""
+    try:
+        package = apt.unpacked(user.name)
+    except Unfetched:
+        return [f"{user.name}: not fetched"], []
+    files = list(grammars(package))
+    if any(not outside(it.read_bytes()) for it in files):
+        configure(package)
+    lines, words = [], []
+    for number, file in enumerate(files):
+        room = apt.room / "made" / user.name / str(number)
+        word, reason = looked_at(user, file, room, package, given.programs["ycc"])
+        words.append(word)
+        told = f"{user.name}: {file.relative_to(package)}: {word}"
+        lines.append(f"{told}: {reason}" if reason else told)
+    return lines or [f"{user.name}: no grammar"], [it for it in words if it != "not counted"]
+
+
+def taken(every, apt, given):
+    """What comes of packages, until enough have a grammar that counts."""
+    left = iter(drawn(every, given))
+    found = 0
+    with ThreadPoolExecutor(given.jobs) as pool:
+        while found < given.packages:
+            some = [it for _, it in zip(range(given.packages - found), left)]
+            if not some:
+                return
+            for lines, words in pool.map(partial(counted, apt=apt, given=given), some):
+                print("\n".join(lines), flush=True)
+                found += bool(words)
+                if words:
+                    yield words
+
+
+def main(words):
+    """Draws packages, and makes their parsers."""
+    options = {"packages": 35, "seed": 1, "most": 12, "jobs": os.cpu_count(), "keep": Path}
+    given, tally, kinds = asked(__doc__, words, ("ycc",), **options), Tally(), Counter()
+    given.programs["ycc"] = str(Path(given.programs["ycc"]).absolute())
+    with ExitStack() as stack:
+        room = given.keep or stack.enter_context(tempfile.TemporaryDirectory(prefix="drawn-"))
+        apt = Apt(Path(room).absolute())
+        for found in taken(users(apt), apt, given):
+            kinds.update(found)
+            tally.add(*(1, 0) if {*found} == {"alike"} else (0, 1))
+    told = ", ".join(f"{number} {word}" for word, number in kinds.most_common())
+    packages = tally.passed + tally.failed
+    print(f"grammars: {told}; packages all alike: {tally.passed} of {packages}")
+    return tally.end()
