@@ -11,6 +11,10 @@ from checks.shared.running import status_of
 SECONDS = 60
 
 
+class Endless(Fault):
+    """That a program had not ended in its time."""
+
+
 def lay_links(links, room):
     """Makes links in a folder."""
     for path, target in links.items():
@@ -51,7 +55,15 @@ def ended(ran, room):
     return came_back(ran.stdout or b"", ran.stderr or b"", status_of(ran.returncode), room)
 
 
-def run_in(room, scenario, program, prepare=lambda _: None, **how):
+def started(scenario, program, loader):
+    """The words that start a program, by a loader where there is one, and the file that they run."""
+    name, *words = words_of(scenario)
+    if loader:
+        return [*loader, "--argv0", name, program, *words], loader[0]
+    return [name, *words], program
+
+
+def run_in(room, scenario, program, prepare=lambda _: None, loader=(), **how):
     """What comes back of a scenario in a prepared folder, with other streams or limits."""
     lay(scenario.inputs, room)
     lay_links(scenario.links, room)
@@ -60,18 +72,19 @@ def run_in(room, scenario, program, prepare=lambda _: None, **how):
         how = {"cwd": room, "env": scenario.environment, "timeout": SECONDS, **streams, **how}
         if "stdin" in how:
             how.pop("input", None)
-        ran = subprocess.run(words_of(scenario), executable=program, **how)
+        words, file = started(scenario, program, loader)
+        ran = subprocess.run(words, executable=file, **how)
     take_links(scenario.links, room)
     return ended(ran, room)
 
 
-def run(scenario, program):
+def run(scenario, program, loader=(), seconds=SECONDS):
     """What comes back of a scenario, or the fault that kept it from running."""
     with tempfile.TemporaryDirectory() as room:
         try:
-            return run_in(room, scenario, program)
+            return run_in(room, scenario, program, loader=loader, timeout=seconds)
         except subprocess.TimeoutExpired:
-            return Fault(f"it had not ended after {SECONDS} seconds")
+            return Endless(f"it had not ended after {seconds} seconds")
         except (OSError, ValueError) as error:
             return Fault(f"{program} does not start: {error}")
         except Fault as fault:

@@ -5,8 +5,8 @@
 ROOT holds scenarios, or is a page that tells some, NAME.md; without one, all of the repository are
 meant. NAME is one below a root, or a folder of some. PATH is a built program; without one,
 crates/PROGRAM/out/PROGRAM. With --try the programs are built by `rt try`, without proof; with
---or-try where one that is used is older than a file of crates/ or crates.txt. `rt try` has no links,
-no streams, and limits of its own: a scenario that needs or meets these is skipped then, and named.
+--or-try where one that is used is older than a file of crates/ or crates.txt. A scenario for which
+such a program is too slow, checked as it runs, is skipped and named.
 --accept keeps what comes back of the named scenarios as what is wanted, and marks them unread.
 docs/FORMATS.md says what a scenario is. The last line is `N passed, M failed`.
 """
@@ -159,14 +159,6 @@ def way_of(given, programs, scenarios):
     return tried if given.tries or given.or_try and not are_current(used) else proved
 
 
-def tried_of(scenarios):
-    """The scenarios that can be tried; the others are told."""
-    for it in scenarios:
-        if tried.lacking(it):
-            print(f"skipped: {it.folder}: rt try has no {tried.lacking(it)}")
-    return [it for it in scenarios if not tried.lacking(it)]
-
-
 def roots_of(given):
     """The roots that are named, or all."""
     return given.at or [root.relative_to(Path.cwd()) if is_here(root) else root for root in EVERY]
@@ -193,8 +185,6 @@ def main(words):
     way = way_of(given, programs, scenarios)
     if way is proved:
         run.look_for_programs(named or {it.words[0] for it in scenarios})
-    else:
-        scenarios = tried_of(scenarios)
     for scenario, made in zip(scenarios, way.run_all(scenarios, programs)):
         run.judge(scenario, made)
     return run.tally.end()
