@@ -1,6 +1,6 @@
 """Sentences and trees that `ydebug conflicts` tells of rivals, by a parser in Python that counts.
 
-    ambiguities [ydebug=PATH] [--seconds N] [--seed N]
+    ambiguities [ydebug=PATH] [--seconds N] [--turns N] [--seed N]
 
 Each sentence with two trees must have at least two by a count over all its parts, and both trees
 that are drawn must be made by rules of the grammar, one form below both, and differ. A sentence that
@@ -282,10 +282,10 @@ def compared(ydebug, room, rng, counts):
 
 def main(words):
     """Looks at sentences for some seconds."""
-    given = asked(__doc__, words, ("ydebug",), seconds=60.0, seed=1)
+    given = asked(__doc__, words, ("ydebug",), seconds=60.0, turns=0, seed=1)
     rng, counts, tally = random.Random(given.seed), Counter(), Tally()
     with tempfile.TemporaryDirectory(prefix="ambiguities-") as room:
-        for turn in turns(given.seconds):
+        for turn in turns(given):
             tally.take(f"grammar {turn}", compared(given.programs["ydebug"], room, rng, counts))
     print(", ".join(f"{number} {it}" for it, number in counts.items()))
     for it in ("sentences with two trees", "sentences"):

@@ -1,6 +1,6 @@
 """Compares what `ydebug conflicts` says with all canonical LR(1) item sets, on random grammars.
 
-    conflicts [ydebug=PATH] [--seconds N] [--seed N]
+    conflicts [ydebug=PATH] [--seconds N] [--turns N] [--seed N]
 
 Each list of tokens must be as short as the shortest way to a canonical set that has both rivals;
 where the program says that there is none, there must be none; what it says of a parse over the
@@ -345,10 +345,10 @@ def compared(ydebug, room, rng, counts):
 
 def main(words):
     """Compares reports on conflicts for some seconds."""
-    given = asked(__doc__, words, ("ydebug",), seconds=60.0, seed="1")
+    given = asked(__doc__, words, ("ydebug",), seconds=60.0, turns=0, seed="1")
     rng, counts, tally = random.Random(given.seed), dict.fromkeys(COUNTED, 0), Tally()
     with tempfile.TemporaryDirectory() as room:
-        for turn in turns(given.seconds):
+        for turn in turns(given):
             tally.take(f"grammar {turn}", compared(given.programs["ydebug"], room, rng, counts))
             if tally.failed:
                 break

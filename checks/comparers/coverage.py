@@ -1,6 +1,6 @@
 """Compares `ydebug sentences` and `ydebug cover` with machines in Python, on random grammars.
 
-    coverage [ydebug=PATH] [--seconds N] [--seed N]
+    coverage [ydebug=PATH] [--seconds N] [--turns N] [--seed N]
 
 Each sentence must be derived by the grammar, as Earley's algorithm says, and accepted by tables of
 canonical LR(1) sets that are joined; what it is the first to use, what none uses and the counts
@@ -456,10 +456,10 @@ def counts_of(text):
 
 def main(words):
     """Compares sentences for some seconds."""
-    given = asked(__doc__, words, ("ydebug",), seconds=60.0, seed="1")
+    given = asked(__doc__, words, ("ydebug",), seconds=60.0, turns=0, seed="1")
     rng, counts, tally = random.Random(given.seed), Counter(), Tally()
     with tempfile.TemporaryDirectory() as room:
-        for turn in turns(given.seconds):
+        for turn in turns(given):
             tally.take(f"grammar {turn}", compared(given.programs["ydebug"], room, rng, counts))
             if tally.failed:
                 break

@@ -1,6 +1,6 @@
 """Compares what `ydebug` says in JSON and as a compiler with its report for people.
 
-    documents [ydebug=PATH] [--seconds N] [--seed N]
+    documents [ydebug=PATH] [--seconds N] [--turns N] [--seed N]
 
 The conflicts of each grammar of the scenarios, and of random ones: their counts, cells and kinds,
 their states, tokens, rules and counterexamples, their causes, the warnings, and each line as gcc
@@ -410,7 +410,7 @@ def scenarios():
 
 def main(words):
     """Compares forms of what is said for some seconds."""
-    given = asked(__doc__, words, ("ydebug",), seconds=30.0, seed="1")
+    given = asked(__doc__, words, ("ydebug",), seconds=30.0, turns=0, seed="1")
     ydebug, tally = given.programs["ydebug"], Tally()
     with tempfile.TemporaryDirectory() as room:
         for file in scenarios():
@@ -418,7 +418,7 @@ def main(words):
             wrong = wrong_report(ydebug, room)
             tally.take(file.parent.name, [f"{wrong}\n"] if wrong else [])
         rng = random.Random(given.seed)
-        for turn in turns(given.seconds):
+        for turn in turns(given):
             tally.take(f"grammar {turn}", compared(ydebug, room, rng))
             if tally.failed:
                 break

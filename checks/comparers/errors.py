@@ -1,6 +1,6 @@
 """Compares what `ydebug errors` says with a plain search over all stacks, on random grammars.
 
-    errors [ydebug=PATH] [ystep=PATH] [--seconds N] [--seed N]
+    errors [ydebug=PATH] [ystep=PATH] [--seconds N] [--turns N] [--seed N]
 
 Each list of tokens must be an error at its last token and in the state that is told, with the stack
 and the tokens that could come, by the machine in Python; one of each grammar is also put into a
@@ -235,7 +235,7 @@ def wrong_of(room, programs, rng, counts):
 def compared(programs, room, given):
     """Compares as long as is wanted, up to the first difference."""
     rng, tally, counts = random.Random(given.seed), Tally(), Counter()
-    for turn in turns(given.seconds):
+    for turn in turns(given):
         wrong, grammar, text = wrong_of(room, programs, rng, counts)
         told = [f"{wrong}\n{grammar.text}{text}"] if wrong else []
         tally.take(f"grammar {turn}", told)
@@ -246,7 +246,7 @@ def compared(programs, room, given):
 
 def main(words):
     """Compares as long as is wanted."""
-    given = asked(__doc__, words, ("ydebug", "ystep"), seconds=60, seed=1)
+    given = asked(__doc__, words, ("ydebug", "ystep"), seconds=60, turns=0, seed=1)
     programs = [given.programs[it] for it in ("ydebug", "ystep")]
     with tempfile.TemporaryDirectory() as room:
         tally, counts = compared(programs, Path(room), given)

@@ -1,6 +1,6 @@
 """Does what `ydebug conflicts` advises, and sees by a machine in Python whether cells become so.
 
-    hints [ydebug=PATH] [--seconds N] [--seed N]
+    hints [ydebug=PATH] [--seconds N] [--turns N] [--seed N]
 
 Grammars with precedences are drawn at random. Each hint is followed in all ways that its words
 allow: a line is put at every place, by each word that is named. A precedence that is said to settle
@@ -289,10 +289,10 @@ def judged(draw, text):
 
 def main(words):
     """Follows hints for some seconds."""
-    given = asked(__doc__, words, ("ydebug",), seconds=60.0, seed=1)
+    given = asked(__doc__, words, ("ydebug",), seconds=60.0, turns=0, seed=1)
     rng, counts, tally = random.Random(given.seed), Counter(), Tally()
     with tempfile.TemporaryDirectory(prefix="hints-") as room:
-        for _ in turns(given.seconds):
+        for _ in turns(given):
             draw = whole(rng, KINDS, may_end=False)
             (Path(room) / "grammar.y").write_text(draw.text())
             made = ran([given.programs["ydebug"], "conflicts", "grammar.y"], room)

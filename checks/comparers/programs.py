@@ -1,6 +1,6 @@
 """Compares `yacc` and `ystep` with plain machines, which know nothing of them, on random grammars.
 
-    compare [yacc=PATH] [ystep=PATH] [--seconds N] [--seed N]
+    compare [yacc=PATH] [ystep=PATH] [--seconds N] [--turns N] [--seed N]
 
 Each grammar's table and conflicts are compared byte for byte, and then the replies of some sessions
 over it. The first difference ends the run: its files stay in a folder that is named. The last line
@@ -95,7 +95,7 @@ def is_right(folder, yacc, ystep, rng, counts):
 def compared(programs, folder, given):
     """Compares grammars for some seconds, up to the first difference: the tally, and the counts."""
     rng, counts, tally = random.Random(given.seed), Counter(), Tally()
-    for turn in turns(given.seconds):
+    for turn in turns(given):
         fits = is_right(folder, *programs, rng, counts)
         tally.take(f"grammar {turn}", [] if fits else [f"its files are in {folder}\n"])
         if not fits:
@@ -105,7 +105,7 @@ def compared(programs, folder, given):
 
 def main(words):
     """Compares both programs with the machines."""
-    given = asked(__doc__, words, ("yacc", "ystep"), seconds=60.0, seed=1)
+    given = asked(__doc__, words, ("yacc", "ystep"), seconds=60.0, turns=0, seed=1)
     folder = Path(tempfile.mkdtemp())
     tally, counts = compared([given.programs[it] for it in ("yacc", "ystep")], folder, given)
     if not tally.failed:

@@ -1,6 +1,6 @@
 """Compares `ydebug` over texts with a lexer in Python, on random grammars, SPECs and texts.
 
-    texts [ydebug=PATH] [--seconds N] [--seed N]
+    texts [ydebug=PATH] [--seconds N] [--turns N] [--seed N]
 
 `ydebug check --lex` must say of each text what the SPEC, cut by `re`, and a plain machine say, byte
 for byte; `ydebug tokens` must write these tokens. Spoiled SPECs and texts must be refused by name,
@@ -326,7 +326,7 @@ def fault_in(folder, ydebug, rng, counts):
 def compared(ydebug, folder, given):
     """Compares texts for some seconds, up to the first fault: the tally, and the counts."""
     rng, counts, tally = random.Random(given.seed), Counter(), Tally()
-    for turn in running.turns(given.seconds):
+    for turn in running.turns(given):
         fault = fault_in(folder, ydebug, rng, counts)
         tally.take(f"grammar {turn}", [f"its files are in {folder}: {fault}\n"] if fault else [])
         if fault:
@@ -336,7 +336,7 @@ def compared(ydebug, folder, given):
 
 def main(words):
     """Compares texts and tokens."""
-    given, folder = asked(__doc__, words, ("ydebug",), seconds=60.0, seed=1), Path(
+    given, folder = asked(__doc__, words, ("ydebug",), seconds=60.0, turns=0, seed=1), Path(
         tempfile.mkdtemp()
     )
     tally, counts = compared(given.programs["ydebug"], folder, given)

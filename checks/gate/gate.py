@@ -4,10 +4,11 @@
 
 The first quick check that doesn't end with status 0 ends the gate. The last line,
 `N passed, M failed`, is the sum of `rt ci` and the others; the lines before it say when the proof
-of each crate began and ended, how long each runner took, what was skipped, and how much of the time
-other machines took away.
+of each crate began and ended, how long each runner took, what was skipped, how much of the time
+other machines took away, and once more what failed.
 """
 import os
+import re
 import resource
 import shutil
 import subprocess
@@ -52,6 +53,10 @@ RUNNERS = (
 NEEDS = {"cells": "bison"}
 SKIPPED = "skipped: "
 PROOFS = "proofs"
+# What a line has that tells of a failure; how many failures of a runner are told again, and how many
+# lines of each.
+WRONG = re.compile(r"FAILED|NOT PROVED|: PROVED|: BAD\b|Traceback|error\[")
+MOST, LINES = 8, 12
 
 
 def command(words):
@@ -61,24 +66,34 @@ def command(words):
 
 @dataclass
 class Ran:
-    """What a runner said last, how it ended, what it skipped, its seconds of a processor, and the
-    proofs that were seen below it."""
+    """What a runner said, how it ended, its seconds of a processor, and the proofs that were seen
+    below it."""
 
     name: str
-    last: str
+    said: list
     status: int
-    skipped: list
     spent: float
     proofs: list
 
+    def skipped(self):
+        """What it skipped."""
+        return [f"{self.name}: {it}" for it in self.said if it.startswith(SKIPPED)]
+
     def counted(self):
         """What passed and failed; it fails where it says nothing of the kind."""
-        found = sum_of(self.last)
+        last = self.said[-1] if self.said else ""
+        found = sum_of(last)
         passed, failed = found or (0, 0)
         if not failed and (self.status or not found):
-            print(f"{self.name}: status {self.status} after the line {self.last!r}")
+            print(f"{self.name}: status {self.status} after the line {last!r}")
             failed = 1
         return passed, failed
+
+    def wrong(self):
+        """The lines that tell what failed, each with those after it, or its last lines."""
+        found = [at for at, line in enumerate(self.said) if WRONG.search(line)][:MOST]
+        near = sorted({it for at in found for it in range(at, at + LINES)})
+        return [self.said[it] for it in near if it < len(self.said)] or self.said[-LINES:]
 
 
 def spent():
@@ -89,18 +104,18 @@ def spent():
 
 def streamed(name, words, look=lambda _: None):
     """Runs a command, passes its output on as it comes, and shows each line to what looks."""
-    last, skipped, before = "", [], spent()
+    said, before = [], spent()
     # A proof that is spread over several processors takes up to half as much time again.
     how = {"RT_JOBS": str(lanes()), **os.environ}
     pipes = {"stdout": subprocess.PIPE, "text": True, "errors": "replace"}
     with subprocess.Popen(words, env=how, cwd=TOP, **pipes) as running:
         clock = Clock(running.pid)
-        for last in running.stdout:
-            print(last, end="", flush=True)
-            look(last)
-            skipped += [f"{name}: {last}"] if last.startswith(SKIPPED) else []
+        for line in running.stdout:
+            print(line, end="", flush=True)
+            look(line)
+            said.append(line)
     proofs = clock.stop()
-    return Ran(name, last, running.returncode, skipped, spent() - before, proofs)
+    return Ran(name, said, running.returncode, spent() - before, proofs)
 
 
 def waited_for(name, beside):
@@ -108,8 +123,7 @@ def waited_for(name, beside):
     before = spent()
     lines, status = beside.end()
     print("".join(lines), end="", flush=True)
-    skipped = [f"{name}: {it}" for it in lines if it.startswith(SKIPPED)]
-    return Ran(name, lines[-1] if lines else "", status, skipped, spent() - before, [])
+    return Ran(name, lines, status, spent() - before, [])
 
 
 def result_of(name, words, beside=None):
@@ -121,8 +135,8 @@ def result_of(name, words, beside=None):
         return waited_for(name, beside)
     need = NEEDS.get(name)
     if need and not shutil.which(need):
-        line = f"{SKIPPED}there is no {need}\n"
-        return Ran(name, "0 passed, 0 failed\n", 0, [f"{name}: {line}"], 0.0, [])
+        lines = [f"{SKIPPED}there is no {need}\n", "0 passed, 0 failed\n"]
+        return Ran(name, lines, 0, 0.0, [])
     return streamed(name, words)
 
 
@@ -154,7 +168,13 @@ def tell_runners(results):
     told = ", ".join(f"{it.name} {it.spent / 60:.1f}" for it in results)
     print(f"minutes of a processor: {told}")
     for it in results:
-        print("".join(it.skipped), end="")
+        print("".join(it.skipped()), end="")
+
+
+def tell_failed(results):
+    """Says once more what failed, at the end, where it is seen."""
+    for it in results:
+        print(f"failed: {it.name}\n{''.join(it.wrong())}", end="")
 
 
 def is_quickly_wrong(checks):
@@ -170,11 +190,13 @@ def run(quick, runners, beside=None):
         tally.add(0, 1)
         return tally.end()
     results = [result_of(*it, beside) for it in runners]
-    for it in results:
-        tally.add(*it.counted())
+    counts = [it.counted() for it in results]
+    for it in counts:
+        tally.add(*it)
     tell_proofs(results)
     tell_runners(results)
     tell_time(begun, stolen_before)
+    tell_failed(it for it, (_, failed) in zip(results, counts) if failed)
     return tally.end()
 
 

@@ -1,6 +1,6 @@
 """Imports grammars with precedences, drawn at random, and compares their cells with bison's.
 
-    cells [ydebug=PATH] [--seconds N] [--seed N]
+    cells [ydebug=PATH] [--seconds N] [--turns N] [--seed N]
 
 Bison says in XML what it does in each cell. What yacc does in the cells of what the file becomes is
 that of the machine in Python. `ydebug import` has to refuse the file where they do something else
@@ -149,12 +149,12 @@ def compared(ydebug, folder, draw):
 
 def main(words):
     """Compares cells for some seconds."""
-    given = asked(__doc__, words, ("ydebug",), seconds=60.0, seed=1)
+    given = asked(__doc__, words, ("ydebug",), seconds=60.0, turns=0, seed=1)
     rng, counts, tally = random.Random(given.seed), Counter(), Tally()
     if not is_there():
         sys.exit("cells: there is no bison")
     with tempfile.TemporaryDirectory(prefix="cells-") as room:
-        for turn in turns(given.seconds):
+        for turn in turns(given):
             draw = whole(rng)
             wanted, wrong, said = compared(given.programs["ydebug"], Path(room), draw)
             counts[kind_of(wanted)] += 1

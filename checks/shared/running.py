@@ -17,9 +17,10 @@ def ran(words, room=None, given="", **how):
     return subprocess.run(words, cwd=room, input=given, **how)
 
 
-def turns(seconds):
-    """The numbers of turns, as long as some seconds last, and at least one."""
-    end, turn = time.monotonic() + seconds, 0
-    while not turn or time.monotonic() < end:
+def turns(given):
+    """The numbers of turns, as long as the seconds that are given last, and at least one; no more
+    than the turns that are given, where some are."""
+    end, turn = time.monotonic() + given.seconds, 0
+    while not turn or (time.monotonic() < end and turn != given.turns):
         yield turn
         turn += 1

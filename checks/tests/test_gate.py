@@ -74,6 +74,16 @@ class Gate(Planted):
                 self.assertEqual(status, 1)
                 self.assertTrue(last.endswith(" passed, 1 failed"), last)
 
+    def test_told_again(self):
+        """What failed is said again before the last line, and nothing of what passed is."""
+        bad = "print('--- it FAILED'); print('- one'); print('2 passed, 1 failed')"
+        for text, told in ((bad, "--- it FAILED\n- one\n"), ("print('fine')", "fine\n")):
+            with self.subTest(text=text):
+                runners = [python(f"print('well'); {WELL}"), python(text)]
+                _, said = self.said(lambda _, it=runners: gate.run([], it))
+                self.assertIn(f"failed: runner\n{told}", said)
+                self.assertEqual((said.count("well"), said.count(told)), (1, 2))
+
     def test_quick(self):
         """A quick check that fails ends the gate before any runner."""
         quick = [python("raise SystemExit(1)")[1]]
