@@ -109,11 +109,11 @@ token_place tokens.TooMany = 0
 token_place tokens.Memory = 0
 token_place (tokens.BadLiteral place) = place
 
--- what is told where there is no fault
+-- what C gets where there is no fault
 abbrev pub no_fault : Fault
 no_fault = record { code = 0; line = 0; offset = 0; place = 0 }
 
--- what is told of a fault
+-- what C gets of a fault
 abbrev pub fault_of : Finding → Fault
 fault_of (Grammar placed) = record {
   code = grammar_code placed.fault;
@@ -129,14 +129,14 @@ fault_of (Tokens fault) = record {
 }
 fault_of _ = no_fault
 
--- the status and what is told are those of a fault that is found
+-- the status and the fault are those of a fault that is found
 pub record Shows (source text : List ℕ) (status : ℕ) (fault : Fault) : Type 0 where
   pub finding : Finding
   pub finds : Finds source text finding
   pub says : status ≡ finding_status finding
   pub told : fault ≡ fault_of finding
 
--- there is no fault, and that is told
+-- there is no fault, and C gets that
 abbrev pub ShowsNone : List ℕ → List ℕ → Fault → Type 0
 ShowsNone source text fault =
     ((symbols : List ℕ) × IsFaultless source text symbols) × (fault ≡ no_fault)

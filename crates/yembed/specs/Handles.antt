@@ -1,4 +1,4 @@
--- What the calls on a handle answer, and what C is told.
+-- What the calls on a handle answer, and what C gets.
 use Rattle.std.specs.Prelude.{ℕ, ◌≡◌, List, length, Option, Some, None, Result, Ok, Err}
 use Rattle.ymachine.specs.declared.machine.StepFault.{StepFault}
 use Rattle.ymachine.specs.declared.machine.StepKind.{StepKind}
@@ -48,7 +48,7 @@ abbrev pub standing_status : Option Standing → ℕ
 standing_status None = 12
 standing_status (Some now) = 0
 
--- what C is told of it: as it was, where there is no session
+-- what C gets of it: as it was, where there is no session
 abbrev pub standing_after : Option Standing → Standing → Standing
 standing_after None old = old
 standing_after (Some now) old = now

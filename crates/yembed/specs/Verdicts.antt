@@ -17,7 +17,7 @@ pub record AreTokens (grammar text symbols : List ℕ) : Type 0 where
   pub are : AreTablesOf grammar tables
   pub names : TokensOf tables.built.grammar text (Ok symbols)
 
--- how a verdict is told: 1 and the steps of an accepted parse, 2 and the place of a rejected token,
+-- a verdict in numbers: 1 and the steps of an accepted parse, 2 and the place of a rejected token,
 -- or 3 at the limit of steps
 abbrev pub Tells : Verdict → ℕ → ℕ → ℕ → Type 0
 Tells (Accepted p) outcome steps token = (outcome ≡ 1) × (steps ≡ p) × (token ≡ 0)

@@ -168,7 +168,7 @@ fn build_status(fault: &BuildFault) -> u32
     }
 }
 
-/// What is told where there is no fault.
+/// What C gets where there is no fault.
 pub(crate) fn no_fault() -> Fault
     ensures { result ≡ no_fault }
 {
@@ -194,7 +194,7 @@ impl Finding {
         }
     }
 
-    /// The fault as it is told, all 0 where memory ran out or there are too many item sets.
+    /// The fault as C gets it, all 0 where memory ran out or there are too many item sets.
     pub(crate) fn fault(&self) -> Fault
         ensures { result ≡ fault_of self.now }
     {

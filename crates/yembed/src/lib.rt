@@ -4,7 +4,7 @@
 //! The answer is a status: 0 where all was handed over, and else that of a refusal: 1 where the
 //! grammar is refused, 2 where the tokens are, 3 where memory runs out, 4 where there are too many
 //! item sets. With a refusal nothing is handed over. A text that is longer than the memory given is
-//! handed over by its beginning, and its whole length is told.
+//! handed over by its beginning, with its whole length.
 #![tactic(auto)]
 
 ghost use Rattle.std.specs.Prelude.{◌≡◌, ◌≢◌};

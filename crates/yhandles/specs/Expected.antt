@@ -1,4 +1,4 @@
--- The numbers by which is told which tokens could come next.
+-- The numbers that say which tokens could come next.
 use Rattle.std.specs.Prelude.{ℕ, ◌≡◌, ◌<◌, List, length, slice_index, Ok, Err}
 use Rattle.ymachine.specs.History.{History}
 use Rattle.ymachine.specs.Machine.{Machine}
@@ -10,7 +10,7 @@ use Rattle.ysession.specs.Session.{history_of, machine_of}
 use Rattle.yhandles.specs.declared.texts.TextFault.TheVariants.{NoRoom}
 use Rattle.yhandles.specs.Texts.{Stays, Text}
 
--- the number by which an outlook is told
+-- the number of an outlook
 abbrev pub outlook_number : Outlook → ℕ
 outlook_number Unexpected = 0
 outlook_number Expected = 1
@@ -27,7 +27,7 @@ pub record AreTold (m : Machine) (h : History) (numbers : List ℕ) : Type 0 whe
   pub whole : length numbers ≡ m.tokens
   pub each : (token : ℕ) → token < m.tokens → Tells m h token (slice_index numbers token)
 
--- what is told of the tokens; or memory ran out. In both cases the session goes on as it was.
+-- the numbers of all tokens; or memory ran out. In both cases the session goes on as it was.
 abbrev pub Foretold : Session → Text → Session → Type 0
 Foretold was (Ok text) is = AreTold (machine_of was) (history_of was) text.items × Stays was is
 Foretold was (Err NoRoom) is = Stays was is

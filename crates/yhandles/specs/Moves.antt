@@ -1,4 +1,4 @@
--- What the calls that step, undo and edit answer, and how C is told.
+-- What the calls that step, undo and edit answer, in C's numbers.
 use Rattle.std.specs.Prelude.{ℕ, ◌≡◌, List, [], Option, Some, None, Result, Ok, Err}
 use Rattle.ymachine.specs.declared.machine.AtStart.{AtStart}
 use Rattle.ymachine.specs.declared.machine.Edit.{Edit}
@@ -82,7 +82,7 @@ kind_subject kinds.Fail = 0
 kind_subject (kinds.Insert symbol) = symbol
 kind_subject (kinds.Drop symbol) = symbol
 
--- how C is told of what was made
+-- what C gets of what was made
 abbrev pub move_of : StepKind → Move
 move_of kind = record { kind = kind_number kind; subject = kind_subject kind }
 
@@ -105,7 +105,7 @@ answer_status None = 12
 answer_status (Some (Ok kind)) = 0
 answer_status (Some (Err refusal)) = refusal_status refusal
 
--- what C is told of the move: as it was, where none was made
+-- what C gets of the move: as it was, where none was made
 abbrev pub move_after : Option (Result StepKind Refusal) → Move → Move
 move_after None old = old
 move_after (Some (Ok kind)) old = move_of kind

@@ -1,4 +1,4 @@
--- Where a session stands, as C is told.
+-- Where a session stands, in C's numbers.
 use Rattle.std.specs.Prelude.{ℕ, ◌≡◌, length, Some}
 use Rattle.ymachine.specs.declared.machine.Mode.{Mode}
 use Rattle.ymachine.specs.declared.machine.Mode.TheVariants.{Running, Popping, Accepted, Failed}
@@ -26,7 +26,7 @@ pub record IsStanding (s : Session) (shown : Standing) : Type 0 where
   pub counter : shown.counter ≡ (history_of s).now.counter
   pub errors : shown.errors ≡ (history_of s).now.errors
 
--- it is told where the session stands, which stays as it is
+-- C gets where the session stands, which stays as it is
 pub record Stands (was : Session) (shown : Standing) (is : Session) : Type 0 where
   pub shows : IsStanding was shown
   pub stays : is ≡ was

@@ -1,4 +1,4 @@
-//! Which tokens could come next, as the numbers by which that is told.
+//! Which tokens could come next, in C's numbers.
 
 ghost use Rattle.std.specs.Prelude.{◌≡◌, IfSome};
 ghost use Rattle.ymachine.specs.Machine.{symbols};
@@ -17,7 +17,7 @@ use ysession::expected::{Outlook, outlook_at};
 use ysession::states::stack_states;
 use ysymbols::Sym;
 
-/// The number by which an outlook is told.
+/// The number of an outlook.
 fn outlook_number(outlook: Outlook) -> u8
     ensures { result ≡ outlook_number outlook }
 {
@@ -36,7 +36,7 @@ fn tokens_of(session: &Session) -> usize
     token_count(grammar_of(session.tables()))
 }
 
-/// The number that is told of a token in a session of whose stack these are the states; `None`
+/// The number for a token in a session of whose stack these are the states; `None`
 /// where memory runs out.
 fn number_of(alloc: Global, session: &Session, states: &[usize], token: Sym) -> Option<u8>
     requires { AreStates (tables_of session.now) (symbols (history_of session.now).now.stack)
@@ -49,7 +49,7 @@ fn number_of(alloc: Global, session: &Session, states: &[usize], token: Sym) -> 
     }
 }
 
-/// What is told of each token of the grammar.
+/// The number of each token of the grammar.
 fn foretold(alloc: Global, session: &Session) -> Text
     ensures { Foretold session.now result session.now }
 {
@@ -69,8 +69,8 @@ fn foretold(alloc: Global, session: &Session) -> Text
     Ok(numbers)
 }
 
-/// What is told of each token of the grammar as one that could come next in the session behind a
-/// handle, which goes on as it was; `None` where there is no session.
+/// For each token of the grammar whether it could come next in the session of a handle, which goes on
+/// as it was; `None` where there is no session.
 pub fn expected(alloc: Global, handle: &mut Handle) -> Option<Text>
     ensures { Answers Foretold handle.old.session result handle.new.session }
 {

@@ -77,7 +77,7 @@ fn kind_subject(kind: StepKind) -> usize
     }
 }
 
-/// How C is told of what was made.
+/// What C gets of what was made.
 fn move_of(kind: StepKind) -> Move
     ensures { result ≡ move_of kind }
 {

@@ -5,7 +5,7 @@
 //! look into a folder, is refused as where nothing may be written. A name means one file, and is
 //! compared byte for byte: `./a` isn't `a`, there are no links, and two names are two files. A file
 //! has the bytes that it is given, as many times as it is read. Nobody sits at a terminal, and no
-//! output fails but for want of memory.
+//! output fails unless memory runs out.
 #![tactic(auto)]
 
 mod laid;

@@ -95,7 +95,7 @@ impl Skeleton<'_> {
         }
     }
 
-    /// Writes what `yyerror` gets: the place of an error, where it is told, parameters, a message.
+    /// Writes what `yyerror` gets: the place of an error, where it has one, parameters, a message.
     fn put_error(&self, out: &mut Output, shown: Shown) {
         let style = self.style;
         let mut has_params = false;
