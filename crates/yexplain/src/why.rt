@@ -48,12 +48,12 @@ pub fn put_cell<W: Write>(out: &mut W, asked: Question<'_>) -> io::Result<()> {
 /// otherwise.
 pub fn explain<W: Write>(out: &mut W, asked: Question<'_>) -> io::Result<()> {
     put_cell(out, asked)?;
-    asked.put_reason(out)
+    asked.put_reason(out)?;
+    asked.put_hint(out)
 }
 
 impl<'a> Question<'a> {
-    /// Writes what settled the cell, with its candidates and how to choose otherwise where there
-    /// are several.
+    /// Writes what settled the cell, with its candidates where there are several.
     pub fn put_reason<W: Write>(self, out: &mut W) -> io::Result<()> {
         let shifts = self.shift().is_some();
         let rules = self.candidates().take(2).count();
@@ -79,7 +79,7 @@ impl<'a> Question<'a> {
     }
 
     /// Writes how a cell with several candidates is settled: how the rules stand to the shift, where
-    /// there is one, what is done, and how to choose otherwise.
+    /// there is one, and what is done.
     pub fn put_grounds<W: Write>(self, out: &mut W) -> io::Result<()> {
         let shifts = self.shift().is_some();
         if shifts {
@@ -87,10 +87,17 @@ impl<'a> Question<'a> {
                 self.put_standing(out, candidate)?;
             }
         }
-        self.put_settled(out, shifts)?;
+        self.put_settled(out, shifts)
+    }
+
+    /// Writes how to choose otherwise, where the cell has several candidates.
+    pub fn put_hint<W: Write>(self, out: &mut W) -> io::Result<()> {
+        let rules = self.candidates().take(2).count();
         match hint_on(self) {
-            Some(hint) => Rivals::new(self).put_hint(out, hint),
-            None => Ok(()),
+            Some(hint) if rules > 1 || (rules == 1 && self.shift().is_some()) => {
+                Rivals::new(self).put_hint(out, hint)
+            }
+            _ => Ok(()),
         }
     }
 

@@ -66,7 +66,12 @@ pub fn answers_of(
     Ok(answers)
 }
 
-/// Writes what was found for the first conflict of a block.
+/// Whether a sentence with two trees is among what was found.
+pub fn are_twins(answers: &[Answer]) -> bool {
+    answers.iter().any(|answer| answer.twins.is_some())
+}
+
+/// Writes what was found for a conflict of a block.
 pub fn put_answers<W: Write>(
     alloc: Global,
     page: &mut Page<W>,

@@ -6,7 +6,7 @@ use std::io::Write;
 use yexplain::lines::Lines;
 use yexplain::reads::{grammar_of, name_of};
 use yexplain::text::Name;
-use yexplain::why::explain;
+use yexplain::why::put_cell;
 use ylists::kinds::{put_front, put_states};
 use ytables::Tables;
 use yview::page::Page;
@@ -16,6 +16,17 @@ const INDENT: usize = 4;
 
 const WIDTH: usize = 78;
 
+/// What is offered to choose by.
+#[derive(Clone, Copy)]
+pub enum Offer {
+    /// What the hints say.
+    Hints,
+    /// Nothing, since no ambiguity was found.
+    Lookahead,
+    /// Nothing, since the conflict comes of merged states.
+    Split,
+}
+
 /// What blocks are written with.
 #[derive(Clone, Copy)]
 pub struct BlockText<'a> {
@@ -23,6 +34,8 @@ pub struct BlockText<'a> {
     pub path: &'a str,
     /// The tables.
     pub tables: &'a Tables,
+    /// What is offered.
+    pub offer: Offer,
     /// Where rules stand in the file.
     pub lines: &'a Lines,
 }
@@ -72,6 +85,31 @@ impl BlockText<'_> {
         self.put_tokens(page, entries);
     }
 
+    /// Writes how to choose otherwise in a class of conflicts, where that is offered.
+    fn put_choice<W: Write>(self, page: &mut Page<W>, class: &Class) {
+        if let (Offer::Hints, Some(entry)) = (self.offer, class.entries.first()) {
+            let _ = entry.cell(self.tables, self.lines).put_hint(page);
+            put_also(page, class);
+        }
+    }
+
+    /// Writes why no choice is offered, where none is.
+    pub fn put_offer<W: Write>(self, page: &mut Page<W>) {
+        match self.offer {
+            Offer::Hints => {}
+            Offer::Lookahead => {
+                page.line("  Without an ambiguity each choice loses sentences: no precedence is offered.");
+                page.line(
+                    "  It takes more lookahead: give the rules a common beginning, so that the \
+                     decision comes later, or let the lexer tell tokens apart.",
+                );
+            }
+            Offer::Split => {
+                page.line("  Without an ambiguity each choice loses sentences: no precedence is offered.");
+            }
+        }
+    }
+
     /// Writes the first conflict of a block, why it is settled so, and on which tokens it is the
     /// same.
     pub fn put<W: Write>(self, page: &mut Page<W>, block: &Block) {
@@ -80,9 +118,10 @@ impl BlockText<'_> {
         put_front(page, self.path, entry.kind.spot(self.lines));
         let _ = write!(page, "conflict {}: ", entry.number.saturating_add(1));
         let asked = entry.cell(self.tables, self.lines);
-        let _ = explain(page, asked);
+        let _ = put_cell(page, asked);
+        let _ = asked.put_reason(page);
         if let Some(class) = block.classes.first() {
-            put_also(page, class);
+            self.put_choice(page, class);
             let rest = class.entries.get(1..).unwrap_or(&[]);
             if !rest.is_empty() {
                 self.put_others(page, rest, ("  The same on ", ", "));
@@ -98,7 +137,7 @@ impl BlockText<'_> {
             if let Some(entry) = class.entries.first() {
                 let _ = entry.cell(self.tables, self.lines).put_grounds(page);
             }
-            put_also(page, class);
+            self.put_choice(page, class);
         }
     }
 }
