@@ -12,6 +12,7 @@ use yexplain::reads::{Made, body_of, grammar_of, next_of};
 use yexplain::text::{ItemText, RuleText};
 use ylalr::Item;
 use yreports::blocks::{Block, category_of};
+use yreports::offer::Offer;
 use ysymbols::let_go;
 
 /// The most nodes of a tree that are listed.
@@ -78,6 +79,8 @@ pub struct CauseSheet {
     pub ambiguous: bool,
     /// That sentence by each of two rivals, or a sentence for each rival.
     pub sentences: Vec<SentenceSheet>,
+    /// What is offered: `hints`, or why nothing is.
+    offer: &'static str,
     /// How to choose otherwise.
     hints: Vec<HintSheet>,
 }
@@ -86,7 +89,8 @@ impl Drop for CauseSheet {
     // A call in each owner, which keeps their proofs short.
     fn drop(self) {
         let_go!(self: CauseSheet {
-            kind, category, kinds, states, tokens, loses, rivals, ambiguous, sentences, hints
+            kind, category, kinds, states, tokens, loses, rivals, ambiguous, sentences, offer,
+            hints
         });
     }
 }
@@ -212,7 +216,7 @@ impl Scene<'_> {
     }
 
     /// The cause that a block is, with sentences for its rivals.
-    pub fn cause(self, block: &Block, answers: &[Answer]) -> Made<CauseSheet> {
+    pub fn cause(self, block: &Block, answers: &[Answer], offer: Offer) -> Made<CauseSheet> {
         let (alloc, kind, group) = (self.alloc, &block.first.kind, block.first.group);
         let (mut kinds, mut tokens) = (Vec::new(alloc), Vec::new(alloc));
         let mut hints = Vec::new(alloc);
@@ -221,7 +225,7 @@ impl Scene<'_> {
                 kinds.push(entry.number)?;
                 tokens.push(named(alloc, grammar_of(self.tables), entry.kind.token)?)?;
             }
-            if let Some(hint) = self.hint(class)? {
+            if let (true, Some(hint)) = (offer.has_hints(), self.hint(class)?) {
                 hints.push(hint)?;
             }
         }
@@ -239,6 +243,7 @@ impl Scene<'_> {
             rivals: self.rivals(block)?,
             ambiguous: answers.iter().any(|answer| answer.twins.is_some()),
             sentences: self.sentences(answers)?,
+            offer: offer.name(),
             hints,
         })
     }

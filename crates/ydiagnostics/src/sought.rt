@@ -8,7 +8,7 @@ use ycounterexample::groups::Conflicts;
 use yexplain::lines::Lines;
 use yparse::Session;
 use yreports::also::try_hints;
-use yreports::ambiguity::answers_of;
+use yreports::ambiguity::block_answers;
 use yreports::blocks::{Blocks, blocks_of};
 
 /// The most kinds for which lists are sought.
@@ -54,12 +54,10 @@ pub fn sought_for(
         }
         let (number, next) = (sought.findings.len(), sought.answers.len());
         let block = sought.blocks.list.get(next);
-        let first = block
-            .map(|block| block.first)
-            .filter(|first| first.number == number);
+        let begun = block.filter(|block| block.first.number == number);
         let finding = seeker.find(kind, *group)?;
-        if let Some(first) = first {
-            let answers = answers_of(alloc, &mut seeker, &mut sought.found, &first, &finding)?;
+        if let Some(block) = begun {
+            let answers = block_answers(alloc, &mut seeker, &mut sought.found, block, &finding)?;
             sought.answers.push(answers).map_err(AllocError::from)?;
         }
         sought.findings.push(finding).map_err(AllocError::from)?;

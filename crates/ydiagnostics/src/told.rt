@@ -9,11 +9,11 @@ use yambiguity::answer::Answer;
 use ycounterexample::finding::Finding;
 use ycounterexample::groups::{Conflicts, Group, Kind};
 use yexplain::reads::grammar_of;
-use yexplain::rivals::Rivals;
 use yexplain::text::{Name, Names, RuleText};
 use yfiles::diagnostic::{Diagnostic, Diagnostics, Note, Severity};
 use yfiles::place::Spot;
 use yreports::blocks::{Block, category_of};
+use yreports::offer::Offer;
 
 /// The most tokens that are named.
 const MOST_TOKENS: usize = 20;
@@ -115,6 +115,9 @@ impl Scene<'_> {
                     write!(text, "the grammar is ambiguous: two trees for")?;
                 }
                 Some(rule) => write!(text, "by rule {rule}:")?,
+                None if sentence.dot >= sentence.tokens.len() => {
+                    write!(text, "by the acceptance:")?;
+                }
                 None => write!(text, "by the shift:")?,
             }
             put_tokens(&mut text, &sentence.tokens, sentence.dot)?;
@@ -143,7 +146,7 @@ impl Scene<'_> {
         self,
         block: &Block,
         cause: &CauseSheet,
-        finding: Option<&Finding>,
+        (finding, offer): (Option<&Finding>, Offer),
     ) -> io::Result<Diagnostic> {
         let mut one = self.head((&block.first.kind, block.first.group), &cause.tokens)?;
         if one.severity == Severity::Note {
@@ -154,13 +157,17 @@ impl Scene<'_> {
             let note = rival_note(self.alloc, rival)?;
             one.notes.push(note).map_err(AllocError::from)?;
         }
+        for reason in offer.reasons() {
+            one.help(Vec::from_slice(self.alloc, reason.as_bytes())?)?;
+        }
         for class in &block.classes {
-            let (Some(entry), Some(hint)) = (class.entries.first(), class.settled.hint) else {
+            let (true, Some(entry)) = (offer.has_hints(), class.entries.first()) else {
                 continue;
             };
             let mut text = Vec::new(self.alloc);
-            let asked = entry.cell(self.tables, self.shown.lines);
-            Rivals::new(asked).put_hint(&mut text, hint)?;
+            entry
+                .cell(self.tables, self.shown.lines)
+                .put_hint(&mut text)?;
             for line in text
                 .split(|byte| *byte == b'\n')
                 .filter(|line| !line.is_empty())
@@ -182,8 +189,9 @@ impl Scene<'_> {
                 Some(answers) => answers,
                 None => &[],
             };
-            let cause = self.cause(block, answers)?;
-            told.add(self.told(block, &cause, finding)?)?;
+            let offer = finding.map_or(Offer::Hints, |finding| Offer::of(finding, answers));
+            let cause = self.cause(block, answers, offer)?;
+            told.add(self.told(block, &cause, (finding, offer))?)?;
             causes.push(cause).map_err(AllocError::from)?;
         }
         for (kind, group) in found.groups.iter().skip(blocks.kinds) {

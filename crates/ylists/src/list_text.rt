@@ -36,15 +36,15 @@ pub fn put_unfound<W: Write>(page: &mut Page<W>, finding: &Finding) {
     }
 }
 
+/// Whether no list allows both rivals: then states were merged.
+pub fn is_merged(finding: &Finding) -> bool {
+    let mut lists = finding.lists.iter().map(|list| list.allows);
+    lists.find(|allows| *allows != Allows::Both) == Some(Allows::One)
+}
+
 impl<'a> ListText<'a> {
     fn name(self) -> Name<'a> {
         Name(grammar_of(self.tables), self.kind.token)
-    }
-
-    /// Whether no list allows both rivals: then states were merged.
-    pub fn is_merged(self, finding: &Finding) -> bool {
-        let mut lists = finding.lists.iter().map(|list| list.allows);
-        lists.find(|allows| *allows != Allows::Both) == Some(Allows::One)
     }
 
     /// Writes that no list allows both rivals, where that is so.

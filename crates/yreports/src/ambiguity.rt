@@ -2,9 +2,9 @@
 //! two trees, or a sentence for each.
 
 use crate::ambiguity_text::AmbiguityText;
-use crate::blocks::Entry;
+use crate::blocks::{Block, Entry};
 use std::alloc::Global;
-use std::io::Write;
+use std::io::{self, Write};
 use yambiguity::answer::{Ambiguities, Answer, Rivals};
 use yambiguity::choice::{Cell, Choice};
 use ycounterexample::finding::{Allows, Finding, Seeker};
@@ -13,6 +13,9 @@ use yview::page::Page;
 
 /// The most rules of a block that are set against what is taken.
 const MOST_RULES: usize = 3;
+
+/// The most conflicts of a block for which a sentence with two trees is sought.
+const MOST_SOUGHT: usize = 8;
 
 /// Which rivals a list allows that was found for a rule.
 fn allows_of(finding: &Finding, rule: usize) -> Option<Allows> {
@@ -35,7 +38,7 @@ fn are_both(finding: &Finding, rivals: Rivals) -> Option<bool> {
 
 /// What can be found for the first conflict of a block: for what is taken and each of the first
 /// rules beside it, up to one with which there is a sentence with two trees.
-pub fn answers_of(
+fn answers_of(
     alloc: Global,
     seeker: &mut Seeker<'_>,
     found: &mut Ambiguities,
@@ -69,6 +72,37 @@ pub fn answers_of(
 /// Whether a sentence with two trees is among what was found.
 pub fn are_twins(answers: &[Answer]) -> bool {
     answers.iter().any(|answer| answer.twins.is_some())
+}
+
+/// What can be found for the first conflict of a block; where that is no sentence with two trees,
+/// one for another of its conflicts, if there is one.
+pub fn block_answers(
+    alloc: Global,
+    seeker: &mut Seeker<'_>,
+    found: &mut Ambiguities,
+    block: &Block,
+    finding: &Finding,
+) -> io::Result<Vec<Answer>> {
+    let answers = answers_of(alloc, seeker, found, &block.first, finding)?;
+    let mut left = if answers.is_empty() || are_twins(&answers) {
+        0
+    } else {
+        MOST_SOUGHT
+    };
+    for class in &block.classes {
+        for entry in &class.entries {
+            if left == 0 || entry.number == block.first.number {
+                continue;
+            }
+            left = left.saturating_sub(1);
+            let other = seeker.find(&entry.kind, entry.group)?;
+            let others = answers_of(alloc, seeker, found, entry, &other)?;
+            if are_twins(&others) {
+                return Ok(others);
+            }
+        }
+    }
+    Ok(answers)
 }
 
 /// Writes what was found for a conflict of a block.

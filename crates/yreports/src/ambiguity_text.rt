@@ -56,9 +56,12 @@ fn begin<W: Write>(page: &mut Page<W>, level: usize) {
 }
 
 impl AmbiguityText<'_> {
-    /// Writes a rival.
-    fn put_choice<W: Write>(self, page: &mut Page<W>, choice: Choice) {
+    /// Writes a rival; at the end of its sentence nothing is left to be shifted.
+    fn put_choice<W: Write>(self, page: &mut Page<W>, choice: Choice, sentence: &Sentence) {
         match choice {
+            Choice::Shift if sentence.dot >= sentence.tokens.len() => {
+                page.put("  by the acceptance:");
+            }
             Choice::Shift => page.put("  by the shift:"),
             Choice::Reduce(rule) => {
                 let _ = write!(page, "  by {}:", Numbered(self.lines, rule));
@@ -166,10 +169,10 @@ impl AmbiguityText<'_> {
     pub fn put_twins<W: Write>(self, alloc: Global, page: &mut Page<W>, twins: &Twins) -> Made<()> {
         page.put("  The grammar is ambiguous: two trees for");
         self.put_tokens(page, &twins.sentence);
-        self.put_choice(page, twins.sentence.choice);
+        self.put_choice(page, twins.sentence.choice, &twins.sentence);
         page.end();
         self.put_tree(alloc, page, twins.trees.0, twins.dot)?;
-        self.put_choice(page, twins.second);
+        self.put_choice(page, twins.second, &twins.sentence);
         page.end();
         self.put_tree(alloc, page, twins.trees.1, twins.dot)
     }
@@ -183,7 +186,7 @@ impl AmbiguityText<'_> {
     ) -> Made<()> {
         for sentence in &answer.sentences {
             if !written.contains(&sentence.choice) {
-                self.put_choice(page, sentence.choice);
+                self.put_choice(page, sentence.choice, sentence);
                 self.put_tokens(page, sentence);
                 self.put_refused(page, sentence);
                 written.push(sentence.choice)?;

@@ -2,6 +2,7 @@
 
 use crate::blocks::{Block, Class, Entry};
 use crate::numbers::Ranges;
+use crate::offer::Offer;
 use std::io::Write;
 use yexplain::lines::Lines;
 use yexplain::reads::{grammar_of, name_of};
@@ -15,17 +16,6 @@ use yview::page::Page;
 const INDENT: usize = 4;
 
 const WIDTH: usize = 78;
-
-/// What is offered to choose by.
-#[derive(Clone, Copy)]
-pub enum Offer {
-    /// What the hints say.
-    Hints,
-    /// Nothing, since no ambiguity was found.
-    Lookahead,
-    /// Nothing, since the conflict comes of merged states.
-    Split,
-}
 
 /// What blocks are written with.
 #[derive(Clone, Copy)]
@@ -87,26 +77,17 @@ impl BlockText<'_> {
 
     /// Writes how to choose otherwise in a class of conflicts, where that is offered.
     fn put_choice<W: Write>(self, page: &mut Page<W>, class: &Class) {
-        if let (Offer::Hints, Some(entry)) = (self.offer, class.entries.first()) {
+        if let (true, Some(entry)) = (self.offer.has_hints(), class.entries.first()) {
             let _ = entry.cell(self.tables, self.lines).put_hint(page);
             put_also(page, class);
         }
     }
 
-    /// Writes why no choice is offered, where none is.
+    /// Writes why no hints are offered, where none are.
     pub fn put_offer<W: Write>(self, page: &mut Page<W>) {
-        match self.offer {
-            Offer::Hints => {}
-            Offer::Lookahead => {
-                page.line("  Without an ambiguity each choice loses sentences: no precedence is offered.");
-                page.line(
-                    "  It takes more lookahead: give the rules a common beginning, so that the \
-                     decision comes later, or let the lexer tell tokens apart.",
-                );
-            }
-            Offer::Split => {
-                page.line("  Without an ambiguity each choice loses sentences: no precedence is offered.");
-            }
+        for reason in self.offer.reasons() {
+            page.put("  ");
+            page.line(reason);
         }
     }
 

@@ -1,12 +1,13 @@
 //! The report on the conflicts of a grammar, with what else deserves a warning.
 //!
 //! `blocks` has the conflicts of one state between the same rivals together (written by
-//! `block_text`), `ambiguity` whole sentences for their rivals (written by `ambiguity_text`), `also`
-//! what else a hint settles, `leading` the items of a state that lead to a shift, `numbers` the
-//! numbers of conflicts, `causes` what many have in common, found by changes that are tried on all
-//! cells (`tried`) and by tables without a rule that others cover (`covered`), and `splitting` what
-//! mends a conflict of merged states. Both ask `changed` for the tables of a changed grammar, whose
-//! text `changed_text` writes. Lists of tokens are written and kept by `ylists`.
+//! `block_text`), `ambiguity` whole sentences for their rivals (written by `ambiguity_text`),
+//! `offer` whether hints are offered, `also` what else a hint settles, `leading` the items of a
+//! state that lead to a shift, `numbers` the numbers of conflicts, `causes` what many have in
+//! common, found by changes that are tried on all cells (`tried`) and by tables without a rule that
+//! others cover (`covered`), and `splitting` what mends a conflict of merged states. Both ask
+//! `changed` for the tables of a changed grammar, whose text `changed_text` writes. Lists of tokens
+//! are written and kept by `ylists`.
 #![tactic(auto)]
 
 pub mod also;
@@ -21,6 +22,7 @@ mod changed_text;
 pub mod covered;
 mod leading;
 mod numbers;
+pub mod offer;
 pub mod report;
 mod splitting;
 mod tried;

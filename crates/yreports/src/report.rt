@@ -2,19 +2,20 @@
 //! and lists of tokens that get there; then the warnings.
 
 use crate::also::try_hints;
-use crate::ambiguity::{answers_of, are_twins, put_answers};
+use crate::ambiguity::{block_answers, put_answers};
 use crate::ambiguity_text::AmbiguityText;
-use crate::block_text::{BlockText, Offer};
+use crate::block_text::BlockText;
 use crate::blocks::{Block, Blocks, blocks_of, category_of, shown_of};
 use crate::cause_text::CauseText;
 use crate::causes::causes_of;
 use crate::leading::put_leading;
+use crate::offer::Offer;
 use crate::splitting::{MOST_SPLITS, split_of};
 use crate::warnings::warnings_of;
 use std::alloc::Global;
 use std::io::{self, Write};
 use std::rt::Files;
-use yambiguity::answer::{Ambiguities, Answer};
+use yambiguity::answer::Ambiguities;
 use ycounterexample::finding::{Finding, Seeker, file_tokens};
 use ycounterexample::groups::Conflicts;
 use yexplain::lines::Lines;
@@ -24,7 +25,7 @@ use yfaults::opening::Opened;
 use yfiles::category::Choice;
 use yfiles::steady::Steady;
 use ylists::kinds::{put_counts, put_named};
-use ylists::list_text::{ListText, put_unfound};
+use ylists::list_text::{ListText, is_merged, put_unfound};
 use ylists::saving::{Folder, put_failed};
 use yparse::Session;
 use yprovenance::Reasons;
@@ -34,9 +35,6 @@ use yview::page::Page;
 
 /// The most kinds that are named after those with lists.
 const MOST_NAMED: usize = 1_000;
-
-/// The most conflicts of a block for which a sentence with two trees is sought.
-const MOST_SOUGHT: usize = 8;
 
 /// What stands before and after the numbers in the names of the files of lists.
 pub const LIST_NAME: (&str, &str) = ("conflict-", "");
@@ -67,22 +65,6 @@ struct Report<'a, W, F> {
     splits: usize,
 }
 
-/// The text of the lists for the first conflict of a block.
-fn text_of<'a>(
-    tables: &'a Tables,
-    lines: &'a Lines,
-    block: &'a Block,
-    finding: &Finding,
-) -> ListText<'a> {
-    ListText {
-        tables,
-        lines,
-        kind: &block.first.kind,
-        group: block.first.group,
-        lists: finding.lists.len(),
-    }
-}
-
 impl<W: Write, F: Files + AllocGlobal + Clone + Drop> Report<'_, W, F> {
     /// Writes the conflicts of the first states, with lists, as long as there are steps to seek
     /// them, and says how many kinds these are.
@@ -99,15 +81,9 @@ impl<W: Write, F: Files + AllocGlobal + Clone + Drop> Report<'_, W, F> {
             }
             last = Some(block);
             let finding = seeker.find(&block.first.kind, block.first.group)?;
-            let answers = self.answers(&mut seeker, &mut found, block, &finding)?;
+            let answers = block_answers(self.alloc, &mut seeker, &mut found, block, &finding)?;
             let tables = seeker.session.tables();
-            let offer = if answers.is_empty() || are_twins(&answers) {
-                Offer::Hints
-            } else if text_of(tables, lines, block, &finding).is_merged(&finding) {
-                Offer::Split
-            } else {
-                Offer::Lookahead
-            };
+            let offer = Offer::of(&finding, &answers);
             self.put_block(tables, block, offer)?;
             self.put_finding(tables, block, &finding)?;
             let text = AmbiguityText {
@@ -126,36 +102,6 @@ impl<W: Write, F: Files + AllocGlobal + Clone + Drop> Report<'_, W, F> {
             text.put_further(self.page, block);
         }
         Ok(blocks.kinds)
-    }
-
-    /// What can be found for the first conflict of a block; where that is no sentence with two
-    /// trees, one for another of its conflicts, if there is one.
-    fn answers(
-        &self,
-        seeker: &mut Seeker<'_>,
-        found: &mut Ambiguities,
-        block: &Block,
-        finding: &Finding,
-    ) -> io::Result<Vec<Answer>> {
-        let answers = answers_of(self.alloc, seeker, found, &block.first, finding)?;
-        if answers.is_empty() || are_twins(&answers) {
-            return Ok(answers);
-        }
-        let mut sought = 1usize;
-        for class in &block.classes {
-            for entry in &class.entries {
-                if entry.number == block.first.number || sought >= MOST_SOUGHT {
-                    continue;
-                }
-                sought = sought.saturating_add(1);
-                let other = seeker.find(&entry.kind, entry.group)?;
-                let others = answers_of(self.alloc, seeker, found, entry, &other)?;
-                if are_twins(&others) {
-                    return Ok(others);
-                }
-            }
-        }
-        Ok(answers)
     }
 
     /// Writes how many conflicts there are, and what they come from.
@@ -200,9 +146,15 @@ impl<W: Write, F: Files + AllocGlobal + Clone + Drop> Report<'_, W, F> {
     fn put_finding(&mut self, tables: &Tables, block: &Block, finding: &Finding) -> io::Result<()> {
         let entry = block.first;
         let number = entry.number.saturating_add(1);
-        let text = text_of(tables, self.lines, block, finding);
+        let text = ListText {
+            tables,
+            lines: self.lines,
+            kind: &entry.kind,
+            group: entry.group,
+            lists: finding.lists.len(),
+        };
         text.put_merged(self.page, finding);
-        if text.is_merged(finding) && self.splits > 0 {
+        if is_merged(finding) && self.splits > 0 {
             self.splits = self.splits.saturating_sub(1);
             if let Some(split) = split_of(self.alloc, tables, self.lines, &entry.kind)? {
                 split.put(self.page, grammar_of(tables), self.lines)?;

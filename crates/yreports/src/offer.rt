@@ -1,0 +1,62 @@
+//! What is offered to choose by in a conflict: precedences, unless no ambiguity was found.
+
+use crate::ambiguity::are_twins;
+use yambiguity::answer::Answer;
+use ycounterexample::finding::Finding;
+use ylists::list_text::is_merged;
+
+/// What is offered.
+#[derive(Clone, Copy)]
+pub enum Offer {
+    /// What the hints say.
+    Hints,
+    /// Nothing, since no ambiguity was found.
+    Lookahead,
+    /// Nothing, since the conflict comes of merged states.
+    Split,
+}
+
+/// Why a precedence is none to be offered: in a grammar that isn't ambiguous both rivals are needed.
+const LOSES: &str =
+    "Unless the grammar is ambiguous here, each choice loses sentences: no precedence \
+    is offered.";
+
+impl Offer {
+    /// What is offered for a block of conflicts of which this was found.
+    pub fn of(finding: &Finding, answers: &[Answer]) -> Offer {
+        if answers.is_empty() || are_twins(answers) {
+            Offer::Hints
+        } else if is_merged(finding) {
+            Offer::Split
+        } else {
+            Offer::Lookahead
+        }
+    }
+
+    /// Whether hints are offered.
+    pub fn has_hints(self) -> bool {
+        matches!(self, Offer::Hints)
+    }
+
+    /// Its name, as data.
+    pub fn name(self) -> &'static str {
+        match self {
+            Offer::Hints => "hints",
+            Offer::Lookahead => "lookahead",
+            Offer::Split => "split",
+        }
+    }
+
+    /// Sentences that say why there are no hints, and what helps.
+    pub fn reasons(self) -> &'static [&'static str] {
+        match self {
+            Offer::Hints => &[],
+            Offer::Lookahead => &[
+                LOSES,
+                "More lookahead would decide: write the common beginning of the rules once, so that \
+                 the decision comes later, or let the lexer tell tokens apart.",
+            ],
+            Offer::Split => &[LOSES],
+        }
+    }
+}
