@@ -23,7 +23,10 @@ from checks.shared.tally import Tally
 
 HEAD = re.compile(WARNED + r"conflict \d+: state \d+ on (\S+): ")
 TWO = "  The grammar is ambiguous: two trees for "
-BY = re.compile(r"  by (?:the shift|rule (\d+)(?: \(line \d+\))?):(.*)")
+BY = re.compile(r"  by (?:the (?:shift|acceptance)|rule (\d+)(?: \(line \d+\))?):(.*)")
+# What stands in place of a hint where no ambiguity was found.
+NO_OFFER = "  Unless the grammar is ambiguous here, each choice loses sentences: no precedence is offered."
+HINT = re.compile(r"  To (?:choose|shift|reduce|do)\b|  Or give rule ")
 ROOT = re.compile(r"( +)(\S+)  rule (\d+)")
 LEAVES = re.compile(r"( +)(\S.*)")
 REFUSED = re.compile(r"    The tables refuse it at (?:token (\d+)|its end)\.")
@@ -213,6 +216,8 @@ class Told:
     def __init__(self, part):
         self.token = HEAD.match(part[0])[1]
         self.two, self.apart, self.drawn = None, [], []
+        self.is_offered = any(map(HINT.match, part))
+        self.is_refused = NO_OFFER in part
         is_tree = False
         for line in part:
             by = BY.fullmatch(line)
@@ -247,9 +252,20 @@ def wrong_apart(grammar, told, counts, ends):
     return None
 
 
+def wrong_offer(told, counts):
+    """What is wrong with what is offered: a hint where a sentence has two trees, and none where it was
+    sought in vain."""
+    counts["conflicts without an offer"] += told.is_refused
+    if told.is_refused and (told.is_offered or told.two):
+        return "offered, and not"
+    return "offered" if told.apart and told.is_offered else None
+
+
 def wrong_told(grammar, told, counts, ends):
     """What is wrong with what is told of one conflict."""
-    names = grammar.names
+    names, wrong = grammar.names, wrong_offer(told, counts)
+    if wrong:
+        return wrong
     if told.two:
         counts["sentences with two trees"] += 1
         tokens, _ = read_words(told.two, names)

@@ -210,6 +210,7 @@ def wrong_cause(cause, kinds):
         at = kind["state"], kind["states"], kind["last"]
         fits = fits and lost == cause["loses"] and at == (states[0], len(states), states[-1])
         fits = fits and cause["kind"] == f"{kind['taken']}/reduce"
+    fits = fits and (cause["offer"] == "hints" or not (cause["hints"] or cause["ambiguous"]))
     taken = {it["action"] for it in cause["rivals"] if it["taken"]}
     return None if fits and taken == {ours[0]["taken"]} else f"{ours}, told {cause}"
 
@@ -275,6 +276,16 @@ def without_places(line):
     return f"note: {found[3]}" if found else line
 
 
+def wrong_offers(parts, causes):
+    """What is wrong with what is offered: a block says why nothing is where its cause has none."""
+    offers = {cause["kinds"][0] + 1: cause["offer"] for cause in causes}
+    for part in parts:
+        offer = offers.get(int(NUMBER.match(part[0])[1]))
+        if offer and (NO_OFFER in part) != (offer != "hints"):
+            return f"{part}, told {offer}"
+    return None
+
+
 def wrong_conflicts(source, text, found, diagnostics):
     """What is wrong with the conflicts of a grammar."""
     parts, kinds = parts_of(text), found["kinds"]
@@ -283,6 +294,7 @@ def wrong_conflicts(source, text, found, diagnostics):
     wrong = wrong_counts(text, found) or wrong_columns(source, kinds)
     wrong = wrong or wrong_causes(found, diagnostics) or wrong_spots(source, diagnostics)
     wrong = wrong or wrong_warnings(text, diagnostics) or wrong_places(parts, kinds, text)
+    wrong = wrong or wrong_offers(parts, found["causes"])
     return wrong or next(filter(None, (wrong_block(it, kinds) for it in parts)), None)
 
 

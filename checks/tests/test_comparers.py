@@ -609,6 +609,7 @@ class Ambiguities(Planted):
         report, look = self.look("dangling-else")
         pairs = [("for  IF ID IF", "for  IF"), ("for  IF", "for  ELSE IF")]
         pairs += [("    statement  rule 4\n", "    list  rule 2\n"), ("        IF ID", "        IF")]
+        pairs += [("  by the shift:\n", f"{ambiguities.NO_OFFER}\n  by the shift:\n")]
         first, second = report.split("  by rule 4 (line 7):\n")
         twice = report.replace(second, first.split("  by the shift:\n")[1])
         self.each_caught(look, report, *changed(report, *pairs), twice)
@@ -620,6 +621,7 @@ class Ambiguities(Planted):
         pairs += [("by rule 4 (line 7):", "by rule 3 (line 5):")]
         pairs += [("    The tables refuse it at its end.\n", "")]
         pairs += [("refuse it at its end.", "refuse it at token 2.")]
+        pairs += [("  by the shift:", "  To choose, change the grammar.\n  by the shift:")]
         self.each_caught(look, report, *changed(report, *pairs))
 
     def test_each_report(self):
