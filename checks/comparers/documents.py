@@ -17,6 +17,7 @@ import tempfile
 from itertools import takewhile
 from pathlib import Path
 
+from checks.comparers.ambiguities import NO_OFFER
 from checks.comparers.conflicts import GIVEN_UP, HEAD, lists_in, parts_of
 from checks.shared.arguments import asked
 from checks.shared.grammars import productive
