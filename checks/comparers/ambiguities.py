@@ -25,7 +25,7 @@ HEAD = re.compile(WARNED + r"conflict \d+: state \d+ on (\S+): ")
 TWO = "  The grammar is ambiguous: two trees for "
 BY = re.compile(r"  by (?:the (?:shift|acceptance)|rule (\d+)(?: \(line \d+\))?):(.*)")
 # What stands in place of a hint where no ambiguity was found.
-NO_OFFER = "  Unless the grammar is ambiguous here, each choice loses sentences: no precedence is offered."
+NO_OFFER = "  Unless the grammar is ambiguous here, each choice loses sentences, so none is offered."
 HINT = re.compile(r"  To (?:choose|shift|reduce|do)\b|  Or give rule ")
 ROOT = re.compile(r"( +)(\S+)  rule (\d+)")
 LEAVES = re.compile(r"( +)(\S.*)")

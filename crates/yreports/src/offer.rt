@@ -16,10 +16,9 @@ pub enum Offer {
     Split,
 }
 
-/// Why a precedence is none to be offered: in a grammar that isn't ambiguous both rivals are needed.
+/// Why no choice is offered: in a grammar that isn't ambiguous sentences need each of the rivals.
 const LOSES: &str =
-    "Unless the grammar is ambiguous here, each choice loses sentences: no precedence \
-    is offered.";
+    "Unless the grammar is ambiguous here, each choice loses sentences, so none is offered.";
 
 impl Offer {
     /// What is offered for a block of conflicts of which this was found.
@@ -53,8 +52,8 @@ impl Offer {
             Offer::Hints => &[],
             Offer::Lookahead => &[
                 LOSES,
-                "More lookahead would decide: write the common beginning of the rules once, so that \
-                 the decision comes later, or let the lexer tell tokens apart.",
+                "If more lookahead decides, write what the rules begin with once, so that the choice \
+                 comes later, or let the lexer tell tokens apart.",
             ],
             Offer::Split => &[LOSES],
         }
