@@ -18,8 +18,8 @@
 # make library-test  runs that library: the scenarios of ystep through C and Python, every room, refused memory, threads; some minutes
 # make playground  makes bin/playground.html, one page for grammars and parses with the library in it, as a WebAssembly module, in a checkout whose crates were proved
 # make playground-test  runs it: the module by node on the scenarios of ystep and on 2,000 grammars at random, the page in headless browsers, which apt-get installs where they are missing
-# make install    copies programs, manual pages, completions, drivers and books below PREFIX (/usr/local), and with DESTDIR below that; make build comes first. The library and its module for Python, which goes to PYTHONDIR (lib/python3/dist-packages), are copied where make library built it, but for NO_LIBRARY=1, and the playground where make playground did. The yacc that writes tables and no C goes to libexec/sulderko; TABLE_WRITER=1 puts it into bin. YACC_LINK=1 makes bin/yacc a symbolic link to ycc, for builds that call it so
-# make uninstall  takes the same files away; a bin/yacc that isn't ours stays
+# make install    copies programs, manual pages, completions, drivers and books below PREFIX (/usr/local), and with DESTDIR below that; make build comes first. The library and its module for Python, which goes to PYTHONDIR (lib/python3/dist-packages), are copied where make library built it, but for NO_LIBRARY=1, and the playground where make playground did. The yacc that writes tables and no C goes to libexec/sulderko; TABLE_WRITER=1 puts it into bin. YACC_LINK=1 makes bin/yacc a symbolic link to ycc, for builds that call it so, and BISON_LINK=1 bin/bison
+# make uninstall  takes the same files away; a bin/yacc or bin/bison that isn't ours stays
 # make dist       packs what git has of this state into bin/; its name has what VERSION says
 # make deb        makes Debian packages in bin/ of the programs and the library there; make deb-test tries them in a scratch root, with lintian, CMake and Meson (packaging/README.md says what both need)
 # make imports    imports grammars drawn at random, for a minute, and those of some source packages of Debian, by the programs that make build left, and compares their tables with bison's; FILES="a.y b.y" or PACKAGES="bash" names others. It takes bison and a network
@@ -234,13 +234,15 @@ install: bin/libydriver.a $(filled)
 	  mkdir -p "$(there)/$${to%/*}" && install -m "$$mode" "$$from" "$(there)/$$to" || exit 1; done
 	@! { $(has_library); } || ln -sf libsulderko.so.1 "$(shared_link)"
 	@test -z "$(YACC_LINK)" || ln -sf ycc "$(there)/bin/yacc"
+	@test -z "$(BISON_LINK)" || ln -sf ycc "$(there)/bin/bison"
 
 uninstall:
 	@{ echo "$$copies"; echo "$$aside"; echo "$$library_copies"; echo "$$page_copies"; } | while read -r mode from to; do \
 	  test -n "$$to" || continue; \
 	  rm -f "$(there)/$$to" || exit 1; done
 	@rm -f "$(shared_link)"
-	@test "$$(readlink "$(there)/bin/yacc")" != ycc || rm "$(there)/bin/yacc"
+	@for name in yacc bison; do \
+	  test "$$(readlink "$(there)/bin/$$name")" != ycc || rm "$(there)/bin/$$name" || exit 1; done
 	@echo "$$on_path" | while read -r mode from to; do \
 	  ! cmp -s "$$from" "$(there)/$$to" || rm "$(there)/$$to" || exit 1; done
 	@for folder in $(shared) $(books)/examples $(books) share/cmake/Sulderko libexec/sulderko share/sulderko $(PYTHONDIR)/sulderko; do \

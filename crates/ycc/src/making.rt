@@ -42,7 +42,7 @@ fn wishes_of(given: Given<'_>, options: &Options<'_>) -> Wishes {
         lines: !given.no_lines && !options.no_lines,
         debug: given.trace || options.trace,
         mode: if is_bison { Mode::Bison } else { Mode::Byacc },
-        is_yacc: given.yacc || options.is_yacc,
+        is_yacc: given.yacc || options.is_yacc || !given.bison,
         lists: given.lists,
         speaks: given.messages.is_some(),
     }
@@ -137,7 +137,7 @@ pub fn write_files(
     let code = code_of(alloc, tables)?;
     let speech = speech_of(rt, given.messages, tables, &style)?;
     let grammar = tables.automaton().grammar();
-    let numbering = Numbering::of(alloc, grammar, parts, &code)?;
+    let numbering = Numbering::of(alloc, grammar, parts, &code, is_bison)?;
     let skeleton = Skeleton {
         path,
         own_path: names.parser.as_str(),

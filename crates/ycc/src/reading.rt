@@ -15,6 +15,7 @@ use ylalr::build;
 use yparts::parts::Parts;
 use yparts::refusal::{Refusal, Trouble as Unmade};
 use yparts::{foreign, native};
+use yskeleton::is_of_bison;
 use ytables::{Tables, resolve};
 
 /// A grammar file read.
@@ -79,7 +80,8 @@ fn read_native<'a>(
     (grammar, marks): (Grammar, Vec<Mark<'a>>),
 ) -> Result<Reading<'a>, Ending> {
     let alloc = rt.alloc();
-    let parts = native::parts_of(alloc, file.bytes.as_slice(), &grammar, &marks)?;
+    let mut parts = native::parts_of(alloc, file.bytes.as_slice(), &grammar, &marks)?;
+    parts.options.is_bison = is_of_bison(&parts);
     let automaton = match build(alloc, grammar) {
         Ok(automaton) => automaton,
         Err(fault) => {
@@ -141,7 +143,7 @@ fn read_imported<'a>(
     let mut errors = Steady::new(rt.stderr(), true);
     told.put(&mut errors, "ycc")?;
     let (grammar, imported) = (grammar_of(&foreign.opened.tables), &foreign.imported);
-    let parts = match foreign::parts_of(alloc, &file.bytes, grammar, imported, file.is_bison) {
+    let mut parts = match foreign::parts_of(alloc, &file.bytes, grammar, imported, file.is_bison) {
         Ok(parts) => parts,
         Err(Unmade::Memory) => return Err(Ending::Memory),
         Err(Unmade::Refused(refusal, at)) => match file.refuse(rt, at, refusal.text()) {
@@ -149,6 +151,7 @@ fn read_imported<'a>(
             ending => return Err(ending),
         },
     };
+    parts.options.is_bison = is_of_bison(&parts);
     let mut out = Output::new(alloc);
     put_counts(&mut out, source, &foreign, parts.options.is_bison);
     out.finish(&mut errors)?;

@@ -1,10 +1,11 @@
 //! The parts of a file that `yacc` reads, by its source map.
 
-use crate::parts::{Block, Parts, Piece, Target};
+use crate::parts::{Block, Numbered, Parts, Piece, Target};
 use std::alloc::Global;
 use std::mem;
 use yexplain::lines::{Spots, name_in, symbol_of};
 use yexplain::reads::Made;
+use yforeign::numbers::number_of;
 use ylexemes::part::Lexeme;
 use ysymbols::{Grammar, Sym, let_go};
 use ysyntax::{Mark, Role};
@@ -57,8 +58,17 @@ impl<'a> Gather<'a, '_> {
             (Role::Word, _) => self.tag = None,
             (Role::Tag, _) => self.tag = name_in(lexeme),
             (Role::Declared | Role::Levelled | Role::Typed, _) => {
-                if let (Some(symbol), Some(tag)) = (symbol_of(self.grammar, lexeme), self.tag) {
-                    self.parts.give_tag(symbol, tag);
+                if let Some(symbol) = symbol_of(self.grammar, lexeme) {
+                    self.parts.mentioned.push(symbol)?;
+                    if let Some(tag) = self.tag {
+                        self.parts.give_tag(symbol, tag);
+                    }
+                }
+            }
+            (Role::Digits, Lexeme::Number(digits)) => {
+                if let Some(token) = self.parts.mentioned.last().copied() {
+                    let number = number_of(digits);
+                    self.parts.numbers.push(Numbered { token, number })?;
                 }
             }
             (Role::Action(_), Lexeme::Braced(_)) => {
