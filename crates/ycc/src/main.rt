@@ -69,7 +69,6 @@ fn generate(rt: &HostRuntime, given: Given<'_>, file: &File) -> Result<(), Endin
     if given.pure {
         options.purity = Purity::Yes;
     }
-    options.locations = options.locations || given.locations;
     define(rt, file.variables.as_slice(), options)?;
     write_files(rt, given, file, &found)?;
     if found.is_told {
@@ -90,6 +89,7 @@ fn obey(rt: &HostRuntime, given: Given<'_>, variables: Vec<u8>) -> Result<(), En
         path: String::from_str(rt.alloc(), name)?,
         bytes,
         is_bison: given.bison || !variables.is_empty(),
+        locations: given.locations,
         variables,
     };
     generate(rt, given, &file)

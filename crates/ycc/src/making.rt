@@ -42,7 +42,7 @@ fn wishes_of(given: Given<'_>, options: &Options<'_>) -> Wishes {
         lines: !given.no_lines && !options.no_lines,
         debug: given.trace || options.trace,
         mode: if is_bison { Mode::Bison } else { Mode::Byacc },
-        is_yacc: given.yacc || options.is_yacc || !given.bison,
+        is_yacc: given.yacc || options.is_yacc,
         lists: given.lists,
         speaks: given.messages.is_some(),
     }

@@ -73,6 +73,13 @@ fn put_conflicts(out: &mut Output, first: u64, second: u64) {
     }
 }
 
+/// Takes in what words wish of a file as if it said so, and tells whether it is one of bison.
+fn look_at(parts: &mut Parts<'_>, file: &File) {
+    let options = &mut parts.options;
+    options.locations = options.locations || file.locations;
+    parts.options.is_bison = is_of_bison(parts);
+}
+
 /// A file that `yacc` takes.
 fn read_native<'a>(
     rt: &HostRuntime,
@@ -81,7 +88,7 @@ fn read_native<'a>(
 ) -> Result<Reading<'a>, Ending> {
     let alloc = rt.alloc();
     let mut parts = native::parts_of(alloc, file.bytes.as_slice(), &grammar, &marks)?;
-    parts.options.is_bison = is_of_bison(&parts);
+    look_at(&mut parts, file);
     let automaton = match build(alloc, grammar) {
         Ok(automaton) => automaton,
         Err(fault) => {
@@ -151,7 +158,7 @@ fn read_imported<'a>(
             ending => return Err(ending),
         },
     };
-    parts.options.is_bison = is_of_bison(&parts);
+    look_at(&mut parts, file);
     let mut out = Output::new(alloc);
     put_counts(&mut out, source, &foreign, parts.options.is_bison);
     out.finish(&mut errors)?;

@@ -2,6 +2,7 @@
 //! it makes doesn't compile.
 
 use crate::references::{Dialect, Piece, Whose, piece_at};
+use crate::style::{names_place, uses_places};
 use ylexemes::bytes::is_name_byte;
 use yparts::parts::{Named, Parts, Taker, Target};
 
@@ -11,8 +12,8 @@ const ALL: Dialect = Dialect {
     places: true,
 };
 
-/// Whether code names a place, where that counts, or a value by one of these names.
-fn names_more(code: &[u8], names: &[Named<'_>], places: bool) -> bool {
+/// Whether code names a value by one of these names.
+fn names_value(code: &[u8], names: &[Named<'_>]) -> bool {
     let mut rest = code;
     // each piece has a byte at least
     for _ in code {
@@ -20,16 +21,12 @@ fn names_more(code: &[u8], names: &[Named<'_>], places: bool) -> bool {
             break;
         };
         rest = after;
-        match piece {
-            Piece::Place(_) if places => return true,
-            Piece::Value(value) => {
-                for named in names {
-                    if value.whose == Whose::Named(named.name) {
-                        return true;
-                    }
+        if let Piece::Value(value) = piece {
+            for named in names {
+                if value.whose == Whose::Named(named.name) {
+                    return true;
                 }
             }
-            _ => {}
         }
     }
     false
@@ -75,14 +72,16 @@ pub fn is_of_bison(parts: &Parts<'_>) -> bool {
     if options.is_bison || options.union_name.is_some() {
         return true;
     }
+    if !options.locations && uses_places(parts, ALL) {
+        return true;
+    }
     for block in &parts.blocks {
-        if block.target == Target::Initial && names_more(block.piece.text, &[], true) {
+        if block.target == Target::Initial && names_place(block.piece.text, ALL) {
             return true;
         }
     }
     for action in &parts.actions {
-        let names = parts.names_in(action.body);
-        if names_more(action.piece.text, names, !options.locations) {
+        if names_value(action.piece.text, parts.names_in(action.body)) {
             return true;
         }
     }
