@@ -78,7 +78,7 @@ impl<'a> Skeleton<'a> {
     }
 
     /// The number of `error`.
-    fn error_number(&self) -> u32 {
+    pub fn error_number(&self) -> u32 {
         let number = self.numbering.number(ERROR).unwrap_or(256);
         u32::try_from(number).unwrap_or(256)
     }
@@ -165,11 +165,6 @@ impl<'a> Skeleton<'a> {
         }
         if !is_bison || self.style.wishes.is_yacc {
             self.put_all_tokens(out, MACROS);
-        }
-        if !is_bison {
-            out.put("#define YYERRCODE ");
-            out.signed(i64::from(self.error_number()));
-            out.put("\n");
         }
     }
 

@@ -148,6 +148,9 @@ impl Skeleton<'_> {
         self.style.put_fixed(out, INCLUDES);
         self.put_calls(out);
         self.put_tokens(out);
+        out.put("#define YYERRCODE ");
+        out.signed(i64::from(self.error_number()));
+        out.put("\n");
         self.put_all(out, Target::Provides);
         self.put_all(out, Target::Code);
     }
