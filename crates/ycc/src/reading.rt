@@ -77,7 +77,8 @@ fn put_conflicts(out: &mut Output, first: u64, second: u64) {
 fn look_at(parts: &mut Parts<'_>, file: &File) {
     let options = &mut parts.options;
     options.locations = options.locations || file.locations;
-    parts.options.is_bison = is_of_bison(parts);
+    let is_bison = is_of_bison(&*parts);
+    parts.options.is_bison = is_bison;
 }
 
 /// A file that `yacc` takes.

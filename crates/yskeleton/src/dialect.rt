@@ -81,7 +81,8 @@ pub fn is_of_bison(parts: &Parts<'_>) -> bool {
         }
     }
     for action in &parts.actions {
-        if names_value(action.piece.text, parts.names_in(action.body)) {
+        let names = (&*parts).names_in(action.body);
+        if names_value(action.piece.text, names) {
             return true;
         }
     }

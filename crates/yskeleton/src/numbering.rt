@@ -67,8 +67,10 @@ impl Free {
     /// All that are free beside these.
     fn beside(alloc: Global, numbers: &[Option<usize>]) -> Made<Free> {
         let mut taken = Vec::new(alloc);
-        for number in numbers.iter().flatten() {
-            taken.push(*number)?;
+        for number in numbers {
+            if let Some(number) = number {
+                taken.push(*number)?;
+            }
         }
         taken.sort()?;
         Ok(Free {
@@ -80,7 +82,8 @@ impl Free {
 
     /// Takes the least.
     fn take(&mut self) -> usize {
-        for _ in self.passed..=self.taken.len() {
+        // each number that is taken is passed once
+        for _ in 0..self.taken.len() {
             match self.taken.get(self.passed).copied() {
                 Some(taken) if taken <= self.next => {
                     if taken == self.next {
@@ -136,7 +139,7 @@ fn fill_by_byacc(alloc: Global, numbers: &mut Vec<Option<usize>>, parts: &Parts<
             }
         }
     }
-    if numbers.get(ERROR) == Some(&None) {
+    if numbers.get(ERROR).copied().flatten().is_none() {
         for given in &parts.numbers {
             free.next = free.next.max(given.number.saturating_add(1));
         }
@@ -154,13 +157,15 @@ fn fill_by_bison(numbers: &mut Vec<Option<usize>>, grammar: &Grammar) -> usize {
     for number in numbers.iter() {
         greatest = greatest.max(number.unwrap_or(0));
     }
-    let mut undefined = None;
-    if let Some(named) = grammar.find(UNDEFINED) {
-        undefined = numbers.get(named).copied().flatten();
+    let (named, mut undefined) = (grammar.find(UNDEFINED), None);
+    if let Some(token) = named {
+        undefined = numbers.get(token).copied().flatten();
     }
-    if let Some(number @ None) = numbers.get_mut(ERROR) {
+    if numbers.get(ERROR).copied().flatten().is_none() {
         greatest = greatest.saturating_add(1);
-        *number = Some(greatest);
+        if let Some(number) = numbers.get_mut(ERROR) {
+            *number = Some(greatest);
+        }
     }
     if undefined.is_none() {
         greatest = greatest.saturating_add(1);
@@ -170,7 +175,7 @@ fn fill_by_bison(numbers: &mut Vec<Option<usize>>, grammar: &Grammar) -> usize {
         if number.is_some() {
             continue;
         }
-        if grammar.find(UNDEFINED) == Some(token) {
+        if named == Some(token) {
             *number = Some(undefined);
         } else {
             greatest = greatest.saturating_add(1);
