@@ -9,7 +9,7 @@
 # make page-test  steps through the pages of every example in a headless browser, which apt-get installs where it is missing, and compares them with ystep; runs the playground too, where it was made; keeps pictures in screenshots/
 # make compare    compares the programs that make build left with plain machines in Python, on grammars drawn at random, for a minute, its reports on conflicts with all canonical sets and with what it says for programs, verdicts with sessions over every scenario, errors with a search over all stacks, texts with a lexer in Python, and what hints and warnings on conflicts say with changed grammars, for a minute each; FILES="a.y b.y" adds these, cut off and spoiled, with a second reader
 # make parsers    compares the steps of parsers that ycc makes with those of ystep, over scenarios and 2,000 grammars at random, their messages for errors with those of ydebug, and builds the calculator of examples/calculator-c in every way; some minutes
-# make features   builds small programs, each of which uses a feature of bison's or byacc's files, by the peer and by ycc, and compares what they do; it takes bison, byacc and a C compiler; some minutes
+# make features   builds small programs, each of which uses a feature of bison's or byacc's files, by the peer and by ycc, and compares what they do; and a calculator by ycc below make, automake's ylwrap, CMake and Meson, beside parsers that are out of date. It takes bison, byacc, a C compiler, automake, cmake, meson and ninja; some minutes
 # make packages   builds some source packages of Debian with parsers that ycc makes and with those of byacc or bison, runs their own tests, and gives both builds 300 spoiled inputs for each program; PACKAGES="bc units" names some. It takes a network, byacc, bison, flex, cmake, automake and meson
 # make drawn      draws 35 source packages of Debian that use bison or byacc, makes each of their parsers by ycc too, compiles both, and says why one differs; PACKAGES="bc units" names some. It takes a network, byacc, bison, and a while
 # make drivers    builds the drivers in C and Python, and compares their steps with those of ystep, over scenarios, at random and by tables that are wrong
@@ -18,8 +18,8 @@
 # make library-test  runs that library: the scenarios of ystep through C and Python, every room, refused memory, threads; some minutes
 # make playground  makes bin/playground.html, one page for grammars and parses with the library in it, as a WebAssembly module, in a checkout whose crates were proved
 # make playground-test  runs it: the module by node on the scenarios of ystep and on 2,000 grammars at random, the page in headless browsers, which apt-get installs where they are missing
-# make install    copies programs, manual pages, completions, drivers and books below PREFIX (/usr/local), and with DESTDIR below that; make build comes first. The library and its module for Python, which goes to PYTHONDIR (lib/python3/dist-packages), are copied where make library built it, but for NO_LIBRARY=1, and the playground where make playground did. The yacc that writes tables and no C goes to libexec/sulderko; TABLE_WRITER=1 puts it into bin. YACC_LINK=1 makes bin/yacc a symbolic link to ycc, for builds that call it so
-# make uninstall  takes the same files away; a bin/yacc that isn't ours stays
+# make install    copies programs, manual pages, completions, drivers and books below PREFIX (/usr/local), and with DESTDIR below that; make build comes first. The library and its module for Python, which goes to PYTHONDIR (lib/python3/dist-packages), are copied where make library built it, but for NO_LIBRARY=1, and the playground where make playground did. The yacc that writes tables and no C goes to libexec/sulderko; TABLE_WRITER=1 puts it into bin. YACC_LINK=1 makes bin/yacc a symbolic link to ycc, for builds that call it so, and BISON_LINK=1 bin/bison
+# make uninstall  takes the same files away; a bin/yacc or bin/bison that isn't ours stays
 # make dist       packs what git has of this state into bin/; its name has what VERSION says
 # make deb        makes Debian packages in bin/ of the programs and the library there; make deb-test tries them in a scratch root, with lintian, CMake and Meson (packaging/README.md says what both need)
 # make imports    imports grammars drawn at random, for a minute, and those of some source packages of Debian, by the programs that make build left, and compares their tables with bison's; FILES="a.y b.y" or PACKAGES="bash" names others. It takes bison and a network
@@ -91,6 +91,7 @@ parsers: build
 
 features: build
 	@$(checks) features $(call at,ycc)
+	@$(checks) builds $(call at,ycc)
 
 packages: build
 	@$(checks) packages $(call at,ycc) $(PACKAGES)
@@ -234,13 +235,15 @@ install: bin/libydriver.a $(filled)
 	  mkdir -p "$(there)/$${to%/*}" && install -m "$$mode" "$$from" "$(there)/$$to" || exit 1; done
 	@! { $(has_library); } || ln -sf libsulderko.so.1 "$(shared_link)"
 	@test -z "$(YACC_LINK)" || ln -sf ycc "$(there)/bin/yacc"
+	@test -z "$(BISON_LINK)" || ln -sf ycc "$(there)/bin/bison"
 
 uninstall:
 	@{ echo "$$copies"; echo "$$aside"; echo "$$library_copies"; echo "$$page_copies"; } | while read -r mode from to; do \
 	  test -n "$$to" || continue; \
 	  rm -f "$(there)/$$to" || exit 1; done
 	@rm -f "$(shared_link)"
-	@test "$$(readlink "$(there)/bin/yacc")" != ycc || rm "$(there)/bin/yacc"
+	@for name in yacc bison; do \
+	  test "$$(readlink "$(there)/bin/$$name")" != ycc || rm "$(there)/bin/$$name" || exit 1; done
 	@echo "$$on_path" | while read -r mode from to; do \
 	  ! cmp -s "$$from" "$(there)/$$to" || rm "$(there)/$$to" || exit 1; done
 	@for folder in $(shared) $(books)/examples $(books) share/cmake/Sulderko libexec/sulderko share/sulderko $(PYTHONDIR)/sulderko; do \

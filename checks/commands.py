@@ -40,6 +40,7 @@ GROUPS = {
     },
     "bison, byacc, and packages that use them": {
         "features": "peers.features",
+        "builds": "peers.builds",
         "packages": "peers.packages",
         "drawn": "peers.drawn",
         "cells": "peers.cells",

@@ -11,13 +11,17 @@ trap 'rm -rf "$room"' EXIT
 there=$room/root/opt/y
 fail() { echo "install.sh: $1"; exit 1; }
 
-make -s -C "$top" install DESTDIR="$room/root" PREFIX=/opt/y YACC_LINK=1
+make -s -C "$top" install DESTDIR="$room/root" PREFIX=/opt/y YACC_LINK=1 BISON_LINK=1
 cd "$room"
 
-test "$(readlink "$there/bin/yacc")" = ycc || fail "no link"
+for name in yacc bison; do
+  test "$(readlink "$there/bin/$name")" = ycc || fail "no link $name"
+done
 cp "$top/examples/calculator-c/"* .  2> /dev/null || true
 make -s YACC="$there/bin/yacc" check || fail "other sums by ycc"
-rm "$there/bin/yacc"
+"$there/bin/bison" -d calc.y
+test -f calc.tab.c -a -f calc.tab.h || fail "other names by bison"
+rm "$there/bin/yacc" "$there/bin/bison"
 make -s -C "$top" install DESTDIR="$room/root" PREFIX=/opt/y
 test ! -e "$there/bin/yacc" || fail "a table writer on the path"
 "$there/libexec/sulderko/yacc" -b aside "$top/examples/one-rule/grammar.y"
@@ -50,7 +54,9 @@ if test -f "$top/bin/libsulderko.a"; then
   test -s "$there/share/man/man3/sulderko.3" || fail "no page of the library"
 fi
 
+ln -s /bin/true "$there/bin/bison"
 make -s -C "$top" uninstall DESTDIR="$room/root" PREFIX=/opt/y
+rm "$there/bin/bison" || fail "a bison that is no link of ours was taken away"
 left=$(find "$room/root" ! -type d)
 test -z "$left" || fail "left behind: $left"
 

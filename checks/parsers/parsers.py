@@ -53,6 +53,8 @@ TAIL = b"""
 static void said (int kind, int number)
 {
   static int steps;
+  if (kind == 's' || kind == 'd')
+    number = (int) YYTRANSLATE (number);
   if (printf ("%%c %%d\\n", kind, number) < 0 || ++steps == %d)
     exit (fflush (stdout) ? 3 : 0);
 }
@@ -63,10 +65,20 @@ static void yyerror (const char *what)
     exit (4);
 }
 
+/* The parser has numbers of tokens as byacc or bison gives them; here they go by their kinds. */
+static int number_of (int token)
+{
+  int number;
+  for (number = 0; number <= YYMAXTOKEN; number++)
+    if ((int) yytranslate[number] == token)
+      return number;
+  exit (6);
+}
+
 static int yylex (void)
 {
   int token;
-  return scanf ("%%d", &token) == 1 ? token : 0;
+  return scanf ("%%d", &token) == 1 ? number_of (token) : 0;
 }
 
 int main (void)
@@ -104,8 +116,8 @@ class Names:
     """The steps that a parser writes, by the names of its table."""
 
     def __init__(self, table):
-        self.numbers, self.leads = table.numbers, table.leads()
-        self.tokens = {number: name for name, number in table.numbers.items()}
+        self.leads, self.tokens = table.leads(), dict(enumerate(table.names[: table.tokens]))
+        self.kinds = {name: kind for kind, name in self.tokens.items()}
 
     def step(self, kind, number):
         """A step as `ystep` writes it."""
@@ -149,7 +161,7 @@ def built(folder, grammar, ycc):
 def steps_of(program, table, names):
     """The steps that a parser makes, as `ystep` writes them."""
     known = Names(table_of(table))
-    given = " ".join(str(known.numbers[name]) for name in names)
+    given = " ".join(str(known.kinds[name]) for name in names)
     return told_steps(ran([program], "the parser", given.encode()), known)
 
 
@@ -176,8 +188,8 @@ def speaking(folder, told, ycc, order):
 
 def said_of(program, table, names):
     """What a parser says of the first error."""
-    numbers = table_of(table).numbers
-    given = " ".join(str(numbers[name]) for name in names)
+    kinds = Names(table_of(table)).kinds
+    given = " ".join(str(kinds[name]) for name in names)
     made = ran([program], "the parser", given.encode()).decode()
     return made.partition("m ")[2].replace("\n", "\\n")
 

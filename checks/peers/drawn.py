@@ -159,7 +159,7 @@ def made_by(command, room, file, package):
     for name in names_of_header(file.stem):
         if header.exists() and not (room / name).exists():
             (room / name).write_text(text)
-    return Made(tokens=tuple(sorted(TOKEN.findall(text))), errors=compiled(room, file, package))
+    return Made(tokens=tuple(sorted({*TOKEN.findall(text)})), errors=compiled(room, file, package))
 
 
 # --- what came of it

@@ -21,6 +21,8 @@ newline may stand as in C:
     language c90 c++17                each language
     make -d -o parser.c grammar.y     words for the program that makes a parser, once for each
     ycc --bison                       words for ycc alone, in bison's place
+    called bison                      the name by which ycc is called
+    theirs -y                         words for the peer alone
     compile parser.c other.c          what is compiled and linked
     flags -DYYDEBUG=1                 for the compilers; each line is a case of its own
     status 1                          what the program that makes a parser ends with
@@ -54,7 +56,7 @@ EASY = ["-w", "-O1"]
 LISTS = "--bison-lists"
 EAGER = {"bison": ["-Flr.default-reduction=consistent"], "byacc": []}
 KEYS = {"peer", "language", "make", "ycc", "compile", "flags", "status", "told", "environment"}
-KEYS |= {"input"}
+KEYS |= {"input", "called", "theirs"}
 REFUSED = re.compile(r"refused below: (.*?) *\*/")
 # What `-v` tells of ycc.
 TOLD = re.compile(r"^ycc: .*: order and names of \w+\n", re.M)
@@ -108,6 +110,13 @@ class Maker:
     words: list
     is_strict: bool
     is_peer: bool = False
+    called: str = ""
+
+    def run(self, words, room):
+        """A run of it in a folder, called by its name or another."""
+        program, *own = self.words
+        made = [self.called or program, *own, *words]
+        return run(made, room, executable=shutil.which(program))
 
 
 def words_of(text):
@@ -126,10 +135,11 @@ def read(folder):
     return case
 
 
-def run(words, room, given=b"", seconds=600, env=None):
+def run(words, room, given=b"", seconds=600, env=None, **how):
     """A run of a program in a folder."""
+    how = {"timeout": seconds, "env": {**os.environ, **(env or {})}, **how}
     try:
-        return running.ran(words, room, given, timeout=seconds, env={**os.environ, **(env or {})})
+        return running.ran(words, room, given, **how)
     except subprocess.TimeoutExpired as late:
         raise Differs(f"{words[0]} takes more than {seconds} seconds") from late
 
@@ -160,7 +170,7 @@ def make(case, maker, room):
     """Makes the parsers of a case: what was said, and which files there are if they were made."""
     wanted, said = int(case.words("status", "0")[0]), []
     for words in case.all("make", "-o parser.c grammar.y"):
-        made = run([*maker.words, *words_of(words)], room)
+        made = maker.run(words_of(words), room)
         said.append(text_of(made.stderr))
         if made.returncode != wanted:
             raise Differs(f"{maker.words[0]} {words}: status {made.returncode}\n{said[-1]}")
@@ -261,12 +271,12 @@ def compare_results(theirs, ours):
 
 def makers_of(case, ycc):
     """The peer, and what is compared with it."""
-    peer = Maker([case.peer], False)
+    peer = Maker([case.peer, *case.words("theirs")], False)
     own = case.words("ycc") if case.peer == "bison" else []
     if ycc is None:
         eager = [] if LISTS in own else EAGER[case.peer]
-        return peer, Maker([case.peer, *eager], True, is_peer=True)
-    return peer, Maker([ycc, *own], True)
+        return peer, Maker([*peer.words, *eager], True, is_peer=True)
+    return peer, Maker([ycc, *own], True, called=case.all("called", "")[0])
 
 
 def compare(case, ycc, kept):

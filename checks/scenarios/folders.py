@@ -6,7 +6,8 @@ from pathlib import Path
 
 SUM = "stdout.sum"
 BACK = ("stdout", SUM, "message", "status")
-OWN = {"words", "stdin", "about", "links", "streams", "environment", "left", "gone", *BACK}
+OWN = {"words", "called", "stdin", "about", "links", "streams", "environment", "left", "gone"}
+OWN |= {*BACK}
 UNREAD = "unread"
 TIMES = ".times"
 REPEATED = re.compile(rb"\*(\d+) (.*)\n?")
@@ -28,6 +29,7 @@ class Scenario:
     streams: dict
     wanted: dict
     environment: dict = field(default_factory=dict)
+    called: str = ""
 
 
 def entries_of(folder):
@@ -103,6 +105,14 @@ def spelled_out(files):
     }
 
 
+def called_in(text):
+    """The name by which a program is called, if a file tells one, a word in a line."""
+    words = text.decode().split()
+    if len(words) != 1:
+        raise Fault("called has other than one word")
+    return words[0]
+
+
 def look_at_about(text):
     """Raises a fault where nothing is said of a scenario, or nobody has read it yet."""
     lines = text.decode(errors="replace").split("\n")
@@ -148,7 +158,8 @@ def read(folder, root, accepting):
     pairs = [pairs_of(held.get(name, b"")) for name in ("links", "streams", "environment")]
     (links, streams, environment), wanted = pairs, wanted_of(held, inputs)
     stdin = held.get("stdin", b"")
-    return Scenario(folder, words, stdin, inputs, links, streams, wanted, environment)
+    called = called_in(held["called"]) if "called" in held else ""
+    return Scenario(folder, words, stdin, inputs, links, streams, wanted, environment, called)
 
 
 def lay(files, room):

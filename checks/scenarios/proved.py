@@ -45,8 +45,8 @@ def streams_of(scenario, room):
 
 
 def words_of(scenario):
-    """The words of a scenario as bytes."""
-    words = scenario.words
+    """The words of a scenario as bytes, after the name by which it calls the program."""
+    words = [scenario.called or scenario.words[0], *scenario.words[1:]]
     return [it if isinstance(it, bytes) else it.encode(errors="surrogateescape") for it in words]
 
 

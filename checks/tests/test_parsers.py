@@ -10,7 +10,7 @@ from checks.tests.fakes import Planted, changed, ended
 
 TABLE = (EXAMPLES / "one-rule/tables/left/y.tab").read_bytes()
 STEPS = "1 shift 'x'\n2 reduce 1\n3 accept\n"
-MADE = "s 120\nr 1\na 0\n"
+MADE = "s 2\nr 1\na 0\n"
 CASE = Case(TABLE, ["'x'"], STEPS, None)
 
 
@@ -27,7 +27,7 @@ class Parsers(Planted):
     def test_each_step(self):
         """Another step, a step too many, too few, another status, a message."""
         pairs = [
-            ("r 1", "r 0"), ("s 120", "s 256"), ("a 0\n", ""), ("r 1\n", "r 1\nr 1\n"), ("a", "f")
+            ("r 1", "r 0"), ("s 2", "s 1"), ("a 0\n", ""), ("r 1\n", "r 1\nr 1\n"), ("a", "f")
         ]
         self.each_caught(self.fault, MADE, *changed(MADE, *pairs), "")
         self.assertTrue(self.fault(MADE, status=1))
@@ -35,10 +35,10 @@ class Parsers(Planted):
         self.assertFalse(self.fault(MADE, message="conflicts: 1 shift/reduce"))
 
     def test_given(self):
-        """The parser gets the numbers of the tokens."""
+        """The parser gets the kinds of the tokens."""
         known = parsers.Names(table_of(TABLE))
-        self.assertEqual(known.numbers["'x'"], 120)
-        self.assertEqual(parsers.told_steps(b"p 1\nx 0\nd 120\n", known),
+        self.assertEqual(known.kinds["'x'"], 2)
+        self.assertEqual(parsers.told_steps(b"p 1\nx 0\nd 2\n", known),
                          "1 pop 'x'\n2 shift error\n3 discard 'x'\n")
 
     def test_answers(self):
@@ -67,7 +67,7 @@ class Parsers(Planted):
 
     def test_said(self):
         """What a parser says of the first error is what comes after its steps."""
-        program = self.program("parser", "sys.stdin.read(); print('s 120\\ne 0\\nm a\\nb', end='')\n")
+        program = self.program("parser", "sys.stdin.read(); print('s 2\\ne 0\\nm a\\nb', end='')\n")
         self.assertEqual(parsers.said_of(program, TABLE, ["'x'"]), "a\\nb")
 
     def test_compilers(self):

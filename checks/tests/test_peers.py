@@ -1,11 +1,13 @@
 """Comparisons with bison, byacc and packages that use them: answers that differ."""
+import os
 import random
 from collections import Counter
 from pathlib import Path
 from types import SimpleNamespace
 from unittest import mock
 
-from checks.peers import automata, bison, cells, drawn, features, imports, package_inputs, packages
+from checks.peers import automata, bison, builds, cells, drawn, features, imports, package_inputs
+from checks.peers import packages
 from checks.peers.automata import Automaton
 from checks.peers.cells import Comparison
 from checks.peers.package_inputs import Case, Outcome
@@ -233,6 +235,55 @@ class Features(Planted):
             with mock.patch.object(features, "run", return_value=ended(b"", said, status)):
                 found = self.look(features.compiled, case, maker, "gcc", self.room)
             self.assertEqual(bool(found), wrong)
+
+
+    def test_calls(self):
+        """A program is called by the name that a case tells, and the peer has words of its own."""
+        shell, case = "/bin/sh", features.Case(self.room, {}, "bison", "c90")
+        case.lines = {"ycc": ["-s"], "called": ["some/bison"], "theirs": ["-y"]}
+        peer, ours = features.makers_of(case, shell)
+        self.assertEqual((peer.words, ours.words), (["bison", "-y"], [shell, "-s"]))
+        for maker, name in ((ours, "some/bison"), (features.Maker([shell], True), shell)):
+            made = maker.run(["-c", "echo $0"], self.room)
+            self.assertEqual(made.stdout, f"{name}\n".encode())
+
+
+# A build: it writes a parser, and a calculator that answers.
+BUILT = f"""echo made by it > calc.c
+printf '#!/bin/sh\\ncat {builds.CALCULATOR}/answers\\n' > calc
+chmod +x calc
+"""
+
+
+class Builds(Planted):
+    """Builds of a calculator that take another parser, or none."""
+
+    def look(self, script, needs=()):
+        """The lines that say what is wrong with a build."""
+        generator = builds.Generator("made -y", "made", "/bin/true", "made by it")
+        room = self.room / str(len(list(self.room.iterdir())))
+        way = builds.Way("one", script, "calc.c", needs)
+        return builds.wrong(way, generator, "%%\n", room)
+
+    def test_each_way(self):
+        """A parser that is out of date, other answers, another status, no program that is needed."""
+        pairs = [("made by it", "made by others"), ("calc.c", "other.c"), ("cat ", "wc ")]
+        pairs += [("chmod", "false; chmod")]
+        self.each_caught(self.look, BUILT, *changed(BUILT, *pairs))
+        self.assertTrue(self.look(BUILT, ("no-such-program",)))
+
+    def test_laid(self):
+        """Each way finds its files, with the generator in them, beside those that are out of date."""
+        generator = builds.generator_of("some/ycc")
+        for way in builds.WAYS:
+            room = self.room / way.name
+            builds.lay(way, generator, "%%\n", room)
+            self.assertTrue(all((room / it).read_text() == builds.STALE for it in builds.STALE_NAMES))
+            texts = [generator.filled(way.script), *((room / it).read_text() for it in way.files)]
+            links = [os.readlink(room / "links" / it) for it in ("yacc", "bison")]
+            self.assertEqual(links, [generator.path] * 2)
+            is_told = generator.path in "".join(texts) or "$PWD/links" in way.script
+            self.assertTrue(is_told, way.name)
 
 
 class FakeBuild:

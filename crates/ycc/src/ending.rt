@@ -61,6 +61,8 @@ pub struct File {
     pub variables: Vec<u8>,
     /// Whether words ask for the order and the names of bison.
     pub is_bison: bool,
+    /// Whether words ask for locations.
+    pub locations: bool,
 }
 
 /// Says what a text says, and gives how the program ends.

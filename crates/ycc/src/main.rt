@@ -1,7 +1,8 @@
 //! `ycc [-dltvyLP] [-b prefix] [-o file] [-p prefix] [-H file] [-D name=value] grammar`: writes a
 //! parser in C of a grammar file, a drop-in for `yacc` and `bison` in a build.
 //!
-//! `words` has the command line, `names` the names of the files that are written; `reading` reads
+//! `words` has the command line, `persona` whether `bison` is called, `names` the names of the files
+//! that are written; `reading` reads
 //! the grammar file, `messages` one of messages for errors, `making` makes the texts and writes
 //! them, and `ending` says how a run ends.
 #![tactic(auto)]
@@ -10,11 +11,13 @@ mod ending;
 mod making;
 mod messages;
 mod names;
+mod persona;
 mod reading;
 mod words;
 
 use crate::ending::{Ending, File, outside, say, tell};
 use crate::making::write_files;
+use crate::persona::is_bison;
 use crate::reading::read;
 use crate::words::{Given, USAGE, VERSION, command, given_in, is_idle, is_other, variables_in};
 use clap::error::ErrorKind;
@@ -66,7 +69,6 @@ fn generate(rt: &HostRuntime, given: Given<'_>, file: &File) -> Result<(), Endin
     if given.pure {
         options.purity = Purity::Yes;
     }
-    options.locations = options.locations || given.locations;
     define(rt, file.variables.as_slice(), options)?;
     write_files(rt, given, file, &found)?;
     if found.is_told {
@@ -87,6 +89,7 @@ fn obey(rt: &HostRuntime, given: Given<'_>, variables: Vec<u8>) -> Result<(), En
         path: String::from_str(rt.alloc(), name)?,
         bytes,
         is_bison: given.bison || !variables.is_empty(),
+        locations: given.locations,
         variables,
     };
     generate(rt, given, &file)
@@ -152,10 +155,12 @@ fn run(rt: &HostRuntime) -> Result<(), Ending> {
         Err(error) => return Err(refused_for(rt, &error)),
     };
     let variables = variables_in(rt.alloc(), &matches)?;
-    match given_in(&matches) {
-        Some(given) => obey(rt, given, variables),
-        None => Err(Ending::Words),
-    }
+    let Some(mut asked) = given_in(&matches) else {
+        return Err(Ending::Words);
+    };
+    let call = given.first().map_or("", |call| call.as_str());
+    asked.bison = asked.bison || is_bison(call);
+    obey(rt, asked, variables)
 }
 
 /// Says how a run ended where nothing was said yet, and gives the exit status.

@@ -137,7 +137,7 @@ pub fn write_files(
     let code = code_of(alloc, tables)?;
     let speech = speech_of(rt, given.messages, tables, &style)?;
     let grammar = tables.automaton().grammar();
-    let numbering = Numbering::of(alloc, grammar, parts, &code)?;
+    let numbering = Numbering::of(alloc, grammar, parts, &code, is_bison)?;
     let skeleton = Skeleton {
         path,
         own_path: names.parser.as_str(),

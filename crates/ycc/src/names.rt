@@ -52,7 +52,7 @@ fn cut(path: &str) -> (&str, &'static str) {
     (path, ".h")
 }
 
-/// The names where the file of the parser is named.
+/// The names where the file of the parser is named, as bison has them.
 fn names_by_parser(alloc: Global, path: &str) -> Made<Names> {
     let (stem, header) = cut(path);
     let report = stem.strip_suffix(TAB).unwrap_or(stem);
@@ -81,20 +81,12 @@ fn word(text: Option<&[u8]>) -> Option<&str> {
     str::from_utf8(text?).ok()
 }
 
-/// The names of all files but those that are named by themselves.
-fn names_for(
-    alloc: Global,
-    given: Given<'_>,
-    options: &Options<'_>,
-    is_bison: bool,
-) -> Made<Names> {
-    if let Some(path) = given.parser.or(word(options.output)) {
-        return names_by_parser(alloc, path);
-    }
+/// The names where no file is named: those of bison, or of `yacc` where the program is called so.
+fn names_by_prefix(alloc: Global, given: Given<'_>, options: &Options<'_>) -> Made<Names> {
     let (stem, named) = named_by(given.grammar);
-    let is_yacc = given.yacc || options.is_yacc || !is_bison;
+    let is_yacc = given.yacc || options.is_yacc || !given.bison;
     let (own, endings) = if is_yacc { ("y", PLAIN) } else { (stem, named) };
-    let prefix = given.files.or(word(options.file_prefix)).unwrap_or(own);
+    let prefix = word(options.file_prefix).or(given.files).unwrap_or(own);
     let table = joined(alloc, prefix, TAB)?;
     Ok(Names {
         parser: joined(alloc, &table, endings.0)?,
@@ -104,7 +96,27 @@ fn names_for(
     })
 }
 
-/// The names of the files that words and a file ask for.
+/// The names of all files but those that are named by themselves. For byacc a parser lends its
+/// name to the others where it ends in `.c`.
+fn names_for(
+    alloc: Global,
+    given: Given<'_>,
+    options: &Options<'_>,
+    is_bison: bool,
+) -> Made<Names> {
+    let Some(path) = word(options.output).or(given.parser) else {
+        return names_by_prefix(alloc, given, options);
+    };
+    if is_bison || path.ends_with(PLAIN.0) {
+        return names_by_parser(alloc, path);
+    }
+    let mut names = names_by_prefix(alloc, given, options)?;
+    names.parser = String::from_str(alloc, path)?;
+    Ok(names)
+}
+
+/// The names of the files that words and a file ask for, for a parser of bison or of byacc. What
+/// the file names counts before what words name, as for bison.
 pub fn names_of(
     alloc: Global,
     given: Given<'_>,
@@ -116,7 +128,7 @@ pub fn names_of(
         Header::At(path) => word(Some(path)),
         Header::No | Header::Beside => None,
     };
-    if let Some(path) = given.header.or(header) {
+    if let Some(path) = header.or(given.header) {
         names.header = String::from_str(alloc, path)?;
     }
     let (report, table) = (given.report.unwrap_or(""), given.table.unwrap_or(""));

@@ -15,6 +15,7 @@ use ylalr::build;
 use yparts::parts::Parts;
 use yparts::refusal::{Refusal, Trouble as Unmade};
 use yparts::{foreign, native};
+use yskeleton::is_of_bison;
 use ytables::{Tables, resolve};
 
 /// A grammar file read.
@@ -72,6 +73,14 @@ fn put_conflicts(out: &mut Output, first: u64, second: u64) {
     }
 }
 
+/// Takes in what words wish of a file as if it said so, and tells whether it is one of bison.
+fn look_at(parts: &mut Parts<'_>, file: &File) {
+    let options = &mut parts.options;
+    options.locations = options.locations || file.locations;
+    let is_bison = is_of_bison(&*parts);
+    parts.options.is_bison = is_bison;
+}
+
 /// A file that `yacc` takes.
 fn read_native<'a>(
     rt: &HostRuntime,
@@ -79,7 +88,8 @@ fn read_native<'a>(
     (grammar, marks): (Grammar, Vec<Mark<'a>>),
 ) -> Result<Reading<'a>, Ending> {
     let alloc = rt.alloc();
-    let parts = native::parts_of(alloc, file.bytes.as_slice(), &grammar, &marks)?;
+    let mut parts = native::parts_of(alloc, file.bytes.as_slice(), &grammar, &marks)?;
+    look_at(&mut parts, file);
     let automaton = match build(alloc, grammar) {
         Ok(automaton) => automaton,
         Err(fault) => {
@@ -141,7 +151,7 @@ fn read_imported<'a>(
     let mut errors = Steady::new(rt.stderr(), true);
     told.put(&mut errors, "ycc")?;
     let (grammar, imported) = (grammar_of(&foreign.opened.tables), &foreign.imported);
-    let parts = match foreign::parts_of(alloc, &file.bytes, grammar, imported, file.is_bison) {
+    let mut parts = match foreign::parts_of(alloc, &file.bytes, grammar, imported, file.is_bison) {
         Ok(parts) => parts,
         Err(Unmade::Memory) => return Err(Ending::Memory),
         Err(Unmade::Refused(refusal, at)) => match file.refuse(rt, at, refusal.text()) {
@@ -149,6 +159,7 @@ fn read_imported<'a>(
             ending => return Err(ending),
         },
     };
+    look_at(&mut parts, file);
     let mut out = Output::new(alloc);
     put_counts(&mut out, source, &foreign, parts.options.is_bison);
     out.finish(&mut errors)?;

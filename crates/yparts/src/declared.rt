@@ -4,13 +4,14 @@ use crate::bodies::inner;
 use crate::gather::{Defined, Gather};
 use crate::options::{Errors, Header, Purity};
 use crate::params::param_at;
-use crate::parts::{Block, Care, Deed, Piece, Taker, Target, Whose};
+use crate::parts::{Block, Care, Deed, Numbered, Piece, Taker, Target, Whose};
 use crate::refusal::{Refusal, Trouble};
 use crate::versions::required;
 use crate::words::{Word, target_of, word_of};
 use yexplain::reads::Made;
 use yforeign::directive::{is_symbol, is_word};
 use yforeign::lexeme::{Kind, Lexeme};
+use yforeign::numbers::number_of;
 use yforeign::survey::{inside, is_macro, is_text};
 
 /// The text of a piece without so many signs at both ends.
@@ -236,14 +237,24 @@ impl<'a> Gather<'a, '_> {
         Ok(())
     }
 
-    /// Takes in a list of symbols: each has the tag before it.
+    /// Takes in a list of symbols: each has the tag before it and the number after it.
     pub fn take_list(&mut self, rest: &[Lexeme]) -> Made<()> {
         let mut tag = None;
+        let mut token = None;
         for (at, lexeme) in rest.iter().enumerate() {
+            let text = lexeme.text(self.source);
+            self.see_lexeme(lexeme);
             if lexeme.kind == Kind::Tag {
-                tag = Some(inner(lexeme.text(self.source)));
+                // byacc has one tag, the first of a list
+                self.parts.options.is_bison = self.parts.options.is_bison || at > 0;
+                tag = Some(inner(text));
+            } else if lexeme.kind == Kind::Number {
+                if let Some(token) = token {
+                    let number = number_of(text);
+                    self.parts.numbers.push(Numbered { token, number })?;
+                }
             } else if is_symbol(lexeme.kind) && !is_macro(rest, at) {
-                self.see_symbol(lexeme, tag)?;
+                token = self.see_symbol(lexeme, tag)?;
             }
         }
         Ok(())

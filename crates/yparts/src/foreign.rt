@@ -40,7 +40,11 @@ impl<'a> Gather<'a, '_> {
             return Ok(());
         };
         match group.head {
-            Head::Word(directive) => self.take_declaration(directive, group.lexemes)?,
+            Head::Word(directive) => {
+                // byacc has declarations before the rules alone
+                self.parts.options.is_bison = self.parts.options.is_bison || group.in_rules;
+                self.take_declaration(directive, group.lexemes)?;
+            }
             Head::Code => self.take_block(first)?,
             Head::Left => self.take_rule(group.lexemes)?,
             Head::Bar => self.take_bar(group.lexemes)?,
@@ -97,7 +101,6 @@ impl<'a> Gather<'a, '_> {
         }
         self.refuse_doubles()?;
         self.label_all()?;
-        self.number_all()?;
         let actions = mem::replace(&mut self.actions, Vec::new(self.alloc));
         self.parts.set_actions(self.grammar, &actions)?;
         self.tag_actions();

@@ -1,10 +1,11 @@
 //! The parts of a foreign file while they are gathered.
 
-use crate::parts::{Numbered, Parts, Piece};
+use crate::parts::{Parts, Piece};
 use crate::words::is_only_bison;
 use std::alloc::Global;
 use yexplain::reads::Made;
 use yforeign::lexeme::{Kind, Lexeme};
+use yforeign::numbers::is_hexadecimal;
 use yimport::import::Imported;
 use ysymbols::{Grammar, Sym, let_go};
 
@@ -75,13 +76,27 @@ impl<'a, 'b> Gather<'a, 'b> {
         }
     }
 
+    /// Notes whether a lexeme of a list or of a body is one that byacc doesn't take: a name with a
+    /// dash, a hexadecimal number, that of a macro, or a string that is translated.
+    pub fn see_lexeme(&mut self, lexeme: &Lexeme) {
+        let text = lexeme.text(self.source);
+        let is_foreign = match lexeme.kind {
+            Kind::Name => text.contains(&b'-'),
+            Kind::Number => is_hexadecimal(text),
+            Kind::Arguments | Kind::Translated | Kind::Reference => true,
+            _ => false,
+        };
+        self.parts.options.is_bison = self.parts.options.is_bison || is_foreign;
+    }
+
     /// Notes what a file says of a symbol by naming it below a tag or without one: of the end that
-    /// it is a name of it.
-    pub fn see_symbol(&mut self, lexeme: &Lexeme, tag: Option<&'a [u8]>) -> Made<()> {
+    /// it is a name of it. Gives the symbol.
+    pub fn see_symbol(&mut self, lexeme: &Lexeme, tag: Option<&'a [u8]>) -> Made<Option<Sym>> {
         let text = lexeme.text(self.source);
         let Some(symbol) = self.symbol(lexeme)? else {
-            return Ok(());
+            return Ok(None);
         };
+        self.parts.mentioned.push(symbol)?;
         if symbol == 0 && lexeme.kind == Kind::Name {
             let mut is_new = true;
             for end in &self.parts.ends {
@@ -99,19 +114,7 @@ impl<'a, 'b> Gather<'a, 'b> {
                 looks.label = Some(text);
             }
         }
-        Ok(())
-    }
-
-    /// Notes the numbers of tokens that the grammar can't have.
-    pub fn number_all(&mut self) -> Made<()> {
-        self.parts.greatest = self.imported.greatest;
-        for given in &self.imported.numbers {
-            let number = given.number;
-            if let Some(token) = self.symbol(&given.token)? {
-                self.parts.numbers.push(Numbered { token, number })?;
-            }
-        }
-        Ok(())
+        Ok(Some(symbol))
     }
 
     /// Notes the strings that the file has for symbols.

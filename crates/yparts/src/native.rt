@@ -1,10 +1,11 @@
 //! The parts of a file that `yacc` reads, by its source map.
 
-use crate::parts::{Block, Parts, Piece, Target};
+use crate::parts::{Block, Named, Numbered, Parts, Piece, Target};
 use std::alloc::Global;
 use std::mem;
 use yexplain::lines::{Spots, name_in, symbol_of};
 use yexplain::reads::Made;
+use yforeign::numbers::number_of;
 use ylexemes::part::Lexeme;
 use ysymbols::{Grammar, Sym, let_go};
 use ysyntax::{Mark, Role};
@@ -17,6 +18,10 @@ struct Gather<'a, 'b> {
     parts: Parts<'a>,
     actions: Vec<Piece<'a>>,
     tag: Option<&'a [u8]>,
+    /// The name of the left side.
+    left: &'a [u8],
+    /// How many symbols and actions of the body came.
+    place: usize,
     /// How many marks came.
     marks: usize,
 }
@@ -24,7 +29,7 @@ struct Gather<'a, 'b> {
 impl Drop for Gather<'_, '_> {
     // A call in each owner, which keeps their proofs short.
     fn drop(self) {
-        let_go!(self: Gather { source, grammar, spots, parts, actions, tag, marks });
+        let_go!(self: Gather { source, grammar, spots, parts, actions, tag, left, place, marks });
     }
 }
 
@@ -45,6 +50,38 @@ impl<'a> Gather<'a, '_> {
         Ok(())
     }
 
+    /// Takes in a name of the next value of a body.
+    fn take_name(&mut self, name: &'a [u8]) -> Made<()> {
+        let place = self.place;
+        self.parts.names.push(Named { name, place })?;
+        self.place = place.saturating_add(1);
+        Ok(())
+    }
+
+    /// Takes in a lexeme among the rules: what begins a body, a symbol or an action.
+    fn take_of_rule(&mut self, mark: &Mark<'a>) -> Made<()> {
+        let lexeme = mark.placed.lexeme;
+        let name = name_in(lexeme);
+        match (mark.role, name) {
+            (Role::Left(_), Some(left)) => self.left = left,
+            (Role::Symbol(_), name) => return self.take_name(name.unwrap_or(b"")),
+            (Role::Action(_), _) => {
+                if let Lexeme::Braced(_) = lexeme {
+                    let piece = self.piece(mark.placed.at, mark.placed.end);
+                    self.actions.push(piece)?;
+                    return self.take_name(b"");
+                }
+                return Ok(());
+            }
+            (Role::Bar(_), _) => {}
+            _ => return Ok(()),
+        }
+        let names = self.parts.names.len();
+        self.parts.bodies.push(names)?;
+        self.place = 0;
+        self.take_name(self.left)
+    }
+
     /// Takes in a lexeme.
     fn take(&mut self, mark: &Mark<'a>) -> Made<()> {
         let (lexeme, at, end) = (mark.placed.lexeme, mark.placed.at, mark.placed.end);
@@ -57,13 +94,18 @@ impl<'a> Gather<'a, '_> {
             (Role::Word, _) => self.tag = None,
             (Role::Tag, _) => self.tag = name_in(lexeme),
             (Role::Declared | Role::Levelled | Role::Typed, _) => {
-                if let (Some(symbol), Some(tag)) = (symbol_of(self.grammar, lexeme), self.tag) {
-                    self.parts.give_tag(symbol, tag);
+                if let Some(symbol) = symbol_of(self.grammar, lexeme) {
+                    self.parts.mentioned.push(symbol)?;
+                    if let Some(tag) = self.tag {
+                        self.parts.give_tag(symbol, tag);
+                    }
                 }
             }
-            (Role::Action(_), Lexeme::Braced(_)) => {
-                let piece = self.piece(at, end);
-                self.actions.push(piece)?;
+            (Role::Digits, Lexeme::Number(digits)) => {
+                if let Some(token) = self.parts.mentioned.last().copied() {
+                    let number = number_of(digits);
+                    self.parts.numbers.push(Numbered { token, number })?;
+                }
             }
             (Role::Mark, _) => {
                 self.marks = self.marks.saturating_add(1);
@@ -72,7 +114,7 @@ impl<'a> Gather<'a, '_> {
                     self.parts.tail = Some(tail);
                 }
             }
-            _ => {}
+            _ => self.take_of_rule(mark)?,
         }
         Ok(())
     }
@@ -92,6 +134,8 @@ pub fn parts_of<'a>(
         parts: Parts::new(alloc, grammar.symbols())?,
         actions: Vec::new(alloc),
         tag: None,
+        left: source.get(..0).unwrap_or(&[]),
+        place: 0,
         marks: 0,
     };
     for mark in marks {

@@ -159,10 +159,10 @@ pub struct Parts<'a> {
     pub cares: Vec<Care<'a>>,
     /// The parameters, in their order.
     pub params: Vec<Param<'a>>,
-    /// The numbers of tokens that the file gives, and the grammar can't have.
+    /// The numbers that the file gives tokens.
     pub numbers: Vec<Numbered>,
-    /// The greatest number that the file gives a token.
-    pub greatest: usize,
+    /// The symbols in the order in which the file mentions them, each as often as it does.
+    pub mentioned: Vec<Sym>,
     /// What stands after the second mark.
     pub tail: Option<Piece<'a>>,
     /// Wishes.
@@ -189,7 +189,7 @@ impl<'a> Parts<'a> {
             cares: Vec::new(alloc),
             params: Vec::new(alloc),
             numbers: Vec::new(alloc),
-            greatest: 0,
+            mentioned: Vec::new(alloc),
             tail: None,
             options: Options::none(),
         })

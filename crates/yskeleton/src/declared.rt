@@ -36,14 +36,6 @@ pub fn in_c(grammar: &Grammar, token: Sym) -> Option<CToken<'_>> {
     is_c_name(name).then_some(CToken { name, number })
 }
 
-/// What bison names beside the tokens of a file, and their numbers but that of `error`.
-const OWN: [(&str, Option<i64>); 4] = [
-    ("EMPTY", Some(-2)),
-    ("EOF", Some(0)),
-    ("error", None),
-    ("UNDEF", Some(2_147_483_647)),
-];
-
 /// What stands around the names of tokens and their numbers.
 #[derive(Clone, Copy)]
 struct Frame {
@@ -86,7 +78,7 @@ impl<'a> Skeleton<'a> {
     }
 
     /// The number of `error`.
-    fn error_number(&self) -> u32 {
+    pub fn error_number(&self) -> u32 {
         let number = self.numbering.number(ERROR).unwrap_or(256);
         u32::try_from(number).unwrap_or(256)
     }
@@ -119,10 +111,14 @@ impl<'a> Skeleton<'a> {
                 names_end = names_end || *end == b"YYEOF".as_slice();
             }
             let names_undefined = self.grammar.find(b"YYUNDEF").is_some();
-            for (name, number) in OWN {
-                let is_named = (name == "EOF" && names_end) || (name == "UNDEF" && names_undefined);
+            let undefined = i64::try_from(self.numbering.undefined).unwrap_or(0);
+            for (name, number, is_named) in [
+                ("EMPTY", -2, false),
+                ("EOF", 0, names_end),
+                ("error", i64::from(self.error_number()), false),
+                ("UNDEF", undefined, names_undefined),
+            ] {
                 if !is_named {
-                    let number = number.unwrap_or(i64::from(self.error_number()));
                     let parts = (self.style.macros.as_slice(), name.as_bytes());
                     self.put_token(out, &mut frame, parts, number);
                 }
@@ -169,11 +165,6 @@ impl<'a> Skeleton<'a> {
         }
         if !is_bison || self.style.wishes.is_yacc {
             self.put_all_tokens(out, MACROS);
-        }
-        if !is_bison {
-            out.put("#define YYERRCODE ");
-            out.signed(i64::from(self.error_number()));
-            out.put("\n");
         }
     }
 

@@ -6,7 +6,8 @@
 //! has the numbers of tokens, and `lists` what is needed for lists as bison has them; `spoken` has
 //! messages for errors, and `strings` writes texts within strings of C. `style` says how the parser
 //! looks; `references` finds the values and places that actions name, `scene` says where they
-//! stand, `actions` writes them, and `code` what the file has; `declared` has tokens and types,
+//! stand, `actions` writes them, and `code` what the file has; `dialect` tells files of bison by
+//! what these name; `declared` has tokens and types,
 //! `calls` functions with their parameters, `cares` what is done with values. `parser` puts all
 //! together for a `skeleton`.
 //!
@@ -22,6 +23,7 @@ mod calls;
 mod cares;
 mod code;
 mod declared;
+mod dialect;
 mod errors;
 mod lists;
 mod machine;
@@ -49,6 +51,7 @@ mod words;
 
 pub use actions::Trouble;
 pub use declared::{CToken, in_c, is_c_name};
+pub use dialect::is_of_bison;
 pub use lists::default_rules;
 pub use numbering::Numbering;
 pub use scene::Misuse;

@@ -1,14 +1,14 @@
-//! The numbers of tokens in a parser: those of the grammar, or those that the file gives where the
-//! grammar can't have them; and by which array or search they are translated.
+//! The numbers of tokens in a parser: those that the file gives, and for other tokens those that
+//! byacc or bison would give; and by which array or search they are translated.
 
 use crate::arrays::put_array;
 use std::alloc::Global;
 use ycode::Code;
-use yexplain::reads::Made;
+use yexplain::reads::{Made, name_of};
 use yfiles::output::Output;
 use ylalr::{ERROR, token_count};
 use yparts::parts::Parts;
-use ysymbols::{Grammar, Sym};
+use ysymbols::{Grammar, Sym, let_go};
 
 /// The most that an array of tokens by their numbers goes up to.
 const MOST: usize = 65_535;
@@ -16,11 +16,19 @@ const MOST: usize = 65_535;
 /// The number of `error` where no other token has it.
 const ERROR_NUMBER: usize = 256;
 
+/// The number of what is no token in byacc's order.
+const NO_TOKEN: usize = 2_147_483_647;
+
+/// The token for what is no token, where a file names it.
+const UNDEFINED: &[u8] = b"YYUNDEF";
+
 /// The numbers of tokens in a parser.
 #[derive(Drop)]
 pub struct Numbering {
     /// The number of each token, where it has one.
     pub numbers: Vec<Option<usize>>,
+    /// The number of what is no token.
+    pub undefined: usize,
     /// The token of each number up to a greatest; how many tokens there are for none.
     pub array: Vec<usize>,
     /// The tokens with numbers above, in the order of these.
@@ -38,50 +46,175 @@ pub fn number_of(grammar: &Grammar, token: Sym) -> Option<u32> {
     }
 }
 
-/// The first number above another one, or above 256, that no token has.
-fn free_above(numbers: &[Option<usize>], greatest: usize) -> usize {
-    let first = greatest.max(ERROR_NUMBER).saturating_add(1);
-    let most = first.saturating_add(numbers.len());
-    for number in first..most {
-        if !numbers.contains(&Some(number)) {
-            return number;
-        }
-    }
-    most
+/// Numbers from 257 on that no token has.
+struct Free {
+    /// The numbers that tokens have, sorted.
+    taken: Vec<usize>,
+    /// How many of these are below the next one.
+    passed: usize,
+    /// The next one, unless a token has it.
+    next: usize,
 }
 
-/// The numbers that tokens of a grammar have in its parser.
-fn all_numbers(alloc: Global, grammar: &Grammar, parts: &Parts<'_>) -> Made<Vec<Option<usize>>> {
+impl Drop for Free {
+    // A call in each owner, which keeps their proofs short.
+    fn drop(self) {
+        let_go!(self: Free { taken, passed, next });
+    }
+}
+
+impl Free {
+    /// All that are free beside these.
+    fn beside(alloc: Global, numbers: &[Option<usize>]) -> Made<Free> {
+        let mut taken = Vec::new(alloc);
+        for number in numbers {
+            if let Some(number) = number {
+                taken.push(*number)?;
+            }
+        }
+        taken.sort()?;
+        Ok(Free {
+            taken,
+            passed: 0,
+            next: ERROR_NUMBER.saturating_add(1),
+        })
+    }
+
+    /// Takes the least.
+    fn take(&mut self) -> usize {
+        // each number that is taken is passed once
+        for _ in 0..self.taken.len() {
+            match self.taken.get(self.passed).copied() {
+                Some(taken) if taken <= self.next => {
+                    if taken == self.next {
+                        self.next = self.next.saturating_add(1);
+                    }
+                    self.passed = self.passed.saturating_add(1);
+                }
+                _ => break,
+            }
+        }
+        let number = self.next;
+        self.next = number.saturating_add(1);
+        number
+    }
+}
+
+/// The numbers that tokens have whoever gives the others: the end, literals, and what the file
+/// gives numbers; `error`, unless it or another token was given one.
+fn own_numbers(alloc: Global, grammar: &Grammar, parts: &Parts<'_>) -> Made<Vec<Option<usize>>> {
     let mut numbers = Vec::new(alloc);
     for token in 0..token_count(grammar) {
-        numbers.push(number_of(grammar, token).map(|number| number as usize))?;
+        let is_own = token == 0 || name_of(grammar, token).starts_with(b"'");
+        let number = number_of(grammar, token).map(|number| number as usize);
+        numbers.push(if is_own { number } else { None })?;
     }
-    let mut is_taken = false;
+    let mut is_free = true;
     for given in &parts.numbers {
-        is_taken = is_taken || (given.number == ERROR_NUMBER && given.token != ERROR);
+        is_free = is_free && given.number != ERROR_NUMBER;
         if let Some(number) = numbers.get_mut(given.token) {
             *number = Some(given.number);
         }
     }
-    if is_taken && numbers.get(ERROR) == Some(&Some(ERROR_NUMBER)) {
-        let free = free_above(&numbers, parts.greatest);
-        if let Some(number) = numbers.get_mut(ERROR) {
-            *number = Some(free);
-        }
+    if let (true, Some(number)) = (is_free, numbers.get_mut(ERROR)) {
+        *number = number.or(Some(ERROR_NUMBER));
     }
     Ok(numbers)
 }
 
+/// Gives numbers to the tokens that have none as byacc does, the least that are free in the order
+/// in which the file mentions them; `error` comes last, with one above all that the file gives.
+fn fill_by_byacc(alloc: Global, numbers: &mut Vec<Option<usize>>, parts: &Parts<'_>) -> Made<()> {
+    let mut free = Free::beside(alloc, numbers)?;
+    let mut order = Vec::from_slice(alloc, &parts.mentioned)?;
+    for token in 0..numbers.len() {
+        order.push(token)?;
+    }
+    for token in &order {
+        if *token != ERROR {
+            if let Some(number) = numbers.get_mut(*token) {
+                if number.is_none() {
+                    *number = Some(free.take());
+                }
+            }
+        }
+    }
+    if numbers.get(ERROR).copied().flatten().is_none() {
+        for given in &parts.numbers {
+            free.next = free.next.max(given.number.saturating_add(1));
+        }
+        if let Some(number) = numbers.get_mut(ERROR) {
+            *number = Some(free.take());
+        }
+    }
+    Ok(())
+}
+
+/// Gives numbers to the tokens that have none as bison does, above all others in the order of the
+/// tokens, of which what is no token is the third. Gives the number of that.
+fn fill_by_bison(numbers: &mut Vec<Option<usize>>, grammar: &Grammar) -> usize {
+    let mut greatest = ERROR_NUMBER;
+    for number in numbers.iter() {
+        greatest = greatest.max(number.unwrap_or(0));
+    }
+    let (named, mut undefined) = (grammar.find(UNDEFINED), None);
+    if let Some(token) = named {
+        undefined = numbers.get(token).copied().flatten();
+    }
+    if numbers.get(ERROR).copied().flatten().is_none() {
+        greatest = greatest.saturating_add(1);
+        if let Some(number) = numbers.get_mut(ERROR) {
+            *number = Some(greatest);
+        }
+    }
+    if undefined.is_none() {
+        greatest = greatest.saturating_add(1);
+    }
+    let undefined = undefined.unwrap_or(greatest);
+    for (token, number) in numbers.iter_mut().enumerate() {
+        if number.is_some() {
+            continue;
+        }
+        if named == Some(token) {
+            *number = Some(undefined);
+        } else {
+            greatest = greatest.saturating_add(1);
+            *number = Some(greatest);
+        }
+    }
+    undefined
+}
+
 impl Numbering {
-    /// The numbers of a grammar's tokens in a parser with this code and these parts.
-    pub fn of(alloc: Global, grammar: &Grammar, parts: &Parts<'_>, code: &Code) -> Made<Numbering> {
+    /// The numbers of a grammar's tokens in a parser with this code and these parts, as bison gives
+    /// them or as byacc does.
+    pub fn of(
+        alloc: Global,
+        grammar: &Grammar,
+        parts: &Parts<'_>,
+        code: &Code,
+        is_bison: bool,
+    ) -> Made<Numbering> {
+        let mut numbers = own_numbers(alloc, grammar, parts)?;
+        let mut undefined = NO_TOKEN;
+        if is_bison {
+            undefined = fill_by_bison(&mut numbers, grammar);
+        } else {
+            fill_by_byacc(alloc, &mut numbers, parts)?;
+        }
+        let mut is_changed = false;
+        for (token, number) in numbers.iter().enumerate() {
+            let own = number_of(grammar, token).map(|number| number as usize);
+            is_changed = is_changed || *number != own;
+        }
         let mut numbering = Numbering {
-            numbers: all_numbers(alloc, grammar, parts)?,
+            numbers,
+            undefined,
             array: Vec::from_slice(alloc, code.numbers.as_slice())?,
             above: Vec::new(alloc),
-            is_changed: !parts.numbers.is_empty(),
+            is_changed,
         };
-        if numbering.is_changed {
+        if is_changed {
             numbering.place_all(alloc, code.tokens)?;
         }
         Ok(numbering)

@@ -148,6 +148,9 @@ impl Skeleton<'_> {
         self.style.put_fixed(out, INCLUDES);
         self.put_calls(out);
         self.put_tokens(out);
+        out.put("#define YYERRCODE ");
+        out.signed(i64::from(self.error_number()));
+        out.put("\n");
         self.put_all(out, Target::Provides);
         self.put_all(out, Target::Code);
     }
@@ -206,7 +209,9 @@ impl Skeleton<'_> {
             self.put_tables(alloc, &mut out, defaults)?;
             self.style.put_fixed(&mut out, WORDS);
             let (prefix, macros) = (self.style.token_prefix(), self.style.macros.as_slice());
-            out.put_pieces(&[b"#define YYERRCODE ", prefix, macros, b"UNDEF\n"]);
+            out.put("#define YYNOSYMBOL ");
+            out.number(self.numbering.undefined);
+            out.put_pieces(&[b"\n#define YYERRCODE ", prefix, macros, b"UNDEF\n"]);
             let written = self.put_machine(&mut out);
             self.put_tail(&mut out);
             written

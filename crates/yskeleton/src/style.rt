@@ -4,7 +4,7 @@ use crate::references::{Dialect, Piece, piece_at};
 use std::alloc::Global;
 use yexplain::reads::Made;
 use yparts::options::{Errors, Options, Purity};
-use yparts::parts::{Deed, Parts};
+use yparts::parts::{Deed, Parts, Target};
 use ysymbols::{Grammar, Sym, let_go};
 
 /// Whose order and names a parser has.
@@ -64,16 +64,34 @@ impl Drop for Style<'_> {
     }
 }
 
-/// Whether an action names a place.
-fn uses_places(parts: &Parts<'_>, dialect: Dialect) -> bool {
+/// Whether code names a place.
+pub fn names_place(code: &[u8], dialect: Dialect) -> bool {
+    let mut rest = code;
+    for _ in code {
+        match piece_at(rest, dialect) {
+            Some((Piece::Place(_), _, _)) => return true,
+            Some((_, _, after)) => rest = after,
+            None => break,
+        }
+    }
+    false
+}
+
+/// Whether an action, the one before the first token, or code for values names a place.
+pub fn uses_places(parts: &Parts<'_>, dialect: Dialect) -> bool {
     for action in &parts.actions {
-        let mut rest = action.piece.text;
-        for _ in action.piece.text {
-            match piece_at(rest, dialect) {
-                Some((Piece::Place(_), _, _)) => return true,
-                Some((_, _, after)) => rest = after,
-                None => break,
-            }
+        if names_place(action.piece.text, dialect) {
+            return true;
+        }
+    }
+    for care in &parts.cares {
+        if names_place(care.piece.text, dialect) {
+            return true;
+        }
+    }
+    for block in &parts.blocks {
+        if block.target == Target::Initial && names_place(block.piece.text, dialect) {
+            return true;
         }
     }
     false

@@ -49,7 +49,6 @@ pub const WORDS: &str = r##"
 @if bison
 /* The numbers of tokens that macros name, where an enum gives them another name. */
 #define YYNOTOKEN (-2)
-#define YYNOSYMBOL 2147483647
 #define YYENDTOKEN 0
 @else
 #define YYUNDEF 2147483647

@@ -13,7 +13,6 @@ enum yytokentype {
 #define NUMBER 257
 #define VARIABLE 258
 #define SIGN 259
-#define YYERRCODE 256
 
 #if ! defined YYSTYPE && ! defined YYSTYPE_IS_DECLARED
 union YYSTYPE

@@ -1,0 +1,16 @@
+%{
+#include "plain.h"
+static void show (void);
+%}
+%token A YYUNDEF 700 B C NUMBER
+%%
+all : NUMBER          { show (); }
+    | A B C
+    ;
+%%
+static void show (void)
+{
+  printf ("%d %d %d %d\n", A, B, C, NUMBER);
+  printf ("%d %d %d %d %d\n", YYEMPTY, YYEOF, YYerror, YYUNDEF, YYERRCODE);
+}
+#include "plain_tail.h"

@@ -1,0 +1,6 @@
+#include "rc.tab.h"
+int more (void);
+int more (void)
+{
+  return 10 * NUMBER + OTHER;
+}

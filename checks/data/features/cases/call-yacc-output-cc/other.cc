@@ -1,0 +1,6 @@
+#include "parser.hh"
+int more (void);
+int more (void)
+{
+  return NUMBER + OTHER + YYUNDEF;
+}

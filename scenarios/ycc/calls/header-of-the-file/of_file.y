@@ -1,0 +1,4 @@
+%defines "named.h"
+%token A B 300 C
+%%
+s : A B C ;

@@ -1,0 +1,3 @@
+%token A B 300 C
+%%
+s : A B C ;

@@ -1,0 +1,4 @@
+%file-prefix "named"
+%token A B 300 C
+%%
+s : A B C ;

@@ -1,0 +1,4 @@
+%output "named.c"
+%token A B 300 C
+%%
+s : A B C ;

@@ -1,0 +1,4 @@
+%token A
+%%
+s : A b ; %token B
+b : B ;

@@ -1,0 +1,5 @@
+%pure-parser
+%locations
+%token A B
+%%
+s : A { @$ = @1; } ;

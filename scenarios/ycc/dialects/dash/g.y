@@ -1,0 +1,3 @@
+%token A B
+%%
+s : a-b ; a-b : A ;

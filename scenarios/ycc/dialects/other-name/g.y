@@ -1,0 +1,3 @@
+%token A B
+%%
+s : A { it$more = 1; } ;

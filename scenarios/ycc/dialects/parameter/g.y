@@ -1,0 +1,7 @@
+%{
+#define XY 1
+%}
+%lex-param { void *X }
+%token A B
+%%
+s : A ;

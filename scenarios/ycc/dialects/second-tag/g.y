@@ -1,0 +1,4 @@
+%union { int one; double two; }
+%token <one> A <two> B
+%%
+s : A ;

@@ -1,0 +1,4 @@
+%union { int one; }
+%token A B
+%%
+s : A <one>{ $$ = 1; } B ;

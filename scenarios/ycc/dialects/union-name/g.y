@@ -1,0 +1,4 @@
+%union it { int number; }
+%token <number> A
+%%
+s : A ;

@@ -1,0 +1,3 @@
+%token A B 256 C
+%%
+s : A B C ;

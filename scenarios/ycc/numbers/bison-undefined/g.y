@@ -1,0 +1,3 @@
+%token A YYUNDEF B C
+%%
+s : A B C ;

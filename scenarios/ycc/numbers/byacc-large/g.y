@@ -1,0 +1,3 @@
+%token A 40000 B C
+%%
+s : A B C ;
