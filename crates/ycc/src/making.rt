@@ -4,6 +4,7 @@ use crate::ending::{Ending, File, outside, say, tell};
 use crate::messages::speech_of;
 use crate::names::{Names, names_of};
 use crate::reading::Reading;
+use crate::warnings::tell_found;
 use crate::words::Given;
 use std::alloc::Global;
 use ycode::code_of;
@@ -113,6 +114,15 @@ fn write_all(rt: &HostRuntime, given: Given<'_>, texts: &[Text<'_>]) -> Result<(
     Ok(())
 }
 
+/// Says what is wrong with values that actions name, where something is.
+fn refuse_misuses(rt: &HostRuntime, file: &File, skeleton: &Skeleton<'_>) -> Result<(), Ending> {
+    let mut ending = Ok(());
+    for misused in &skeleton.misuses(rt.alloc())? {
+        ending = Err(file.misused(rt, misused.misuse, misused.at));
+    }
+    ending
+}
+
 /// Makes all texts, and then writes their files.
 pub fn write_files(
     rt: &HostRuntime,
@@ -148,6 +158,15 @@ pub fn write_files(
         numbering: &numbering,
         speech: speech.as_ref(),
     };
+    refuse_misuses(rt, file, &skeleton)?;
+    let is_told = tell_found(rt, given.kinds, file, read, is_bison)?;
     let texts = texts_of(rt, given, file, tables, skeleton, &names)?;
-    write_all(rt, given, &texts)
+    if !given.dry {
+        write_all(rt, given, &texts)?;
+    }
+    if is_told && read.is_told {
+        Ok(())
+    } else {
+        Err(Ending::Untold)
+    }
 }
