@@ -22,14 +22,20 @@ const OLD: [(&str, &str); 3] = [
 /// Directives that have a dash where an older bison had a line below.
 const DASHED: &str = "expect-rr token-table no-lines default-prec no-default-prec";
 
-/// Variables that have another name now.
+/// Variables that have another name now, with the directive before that.
 const OLD_VARIABLES: [(&str, &str); 6] = [
-    ("api.push_pull", "api.push-pull"),
-    ("lr.default-reductions", "lr.default-reduction"),
-    ("lr.keep_unreachable_states", "lr.keep-unreachable-state"),
-    ("lr.keep-unreachable-states", "lr.keep-unreachable-state"),
-    ("location_type", "api.location.type"),
-    ("namespace", "api.namespace"),
+    ("api.push_pull", "%define api.push-pull"),
+    ("lr.default-reductions", "%define lr.default-reduction"),
+    (
+        "lr.keep_unreachable_states",
+        "%define lr.keep-unreachable-state",
+    ),
+    (
+        "lr.keep-unreachable-states",
+        "%define lr.keep-unreachable-state",
+    ),
+    ("location_type", "%define api.location.type"),
+    ("namespace", "%define api.namespace"),
 ];
 
 /// Variables whose values are words.
@@ -62,7 +68,8 @@ fn is_listed(list: &str, text: &[u8]) -> bool {
 /// A word in place of another one.
 fn plain<'a>(word: &'static str) -> Better<'a> {
     Better {
-        before: word,
+        word,
+        before: "",
         part: b"",
         behind: "",
     }
@@ -87,36 +94,27 @@ fn better_word<'a>(seen: Seen<'a>, lexemes: &[Lexeme]) -> Option<(&'a [u8], Bett
     let string = rest.iter().find(|it| is_text(it.kind));
     if let (true, Some(string)) = (is_word(name, "name-prefix"), string) {
         let better = Better {
-            before: "%define api.prefix {",
+            word: "%define api.prefix",
+            before: " {",
             part: inside(seen.source, string),
             behind: "}",
         };
         return Some((between(seen, word, string), better));
     }
-    let part: &[u8] = b"";
-    if let (true, Some(new)) = (name.contains(&b'_'), listed(DASHED, name)) {
-        let before = "%";
-        let behind = new;
-        return Some((
-            text,
-            Better {
-                before,
-                part,
-                behind,
-            },
-        ));
+    if let (true, Some(behind)) = (name.contains(&b'_'), listed(DASHED, name)) {
+        return Some((text, dashed(behind)));
     }
     let equals = rest.first().filter(|it| it.kind == Form::Equals)?;
-    let before = "%";
     let behind = listed("file-prefix output", name)?;
-    Some((
-        between(seen, word, equals),
-        Better {
-            before,
-            part,
-            behind,
-        },
-    ))
+    Some((between(seen, word, equals), dashed(behind)))
+}
+
+/// A directive in place of another one.
+fn dashed<'a>(behind: &'static str) -> Better<'a> {
+    Better {
+        behind,
+        ..plain("%")
+    }
 }
 
 /// Finds what is to be said of the word of a declaration, or of one in a body.
@@ -162,19 +160,23 @@ pub fn find_in_define<'a>(
     let at = word.span.from;
     let own = seen.text(name);
     let new = newer(own);
-    if let Some(before) = new {
+    if let Some(word_now) = new {
         let last = rest.first().unwrap_or(name);
-        let from = name.span.to;
-        let part = seen.source.get(from..last.span.to).unwrap_or(b"");
-        let better = Better {
-            before,
-            part,
-            behind: "",
-        };
+        let mut better = plain(word_now);
+        if let Some(value) = rest.first() {
+            better.before = " ";
+            better.part = match is_text(value.kind) {
+                true => inside(seen.source, value),
+                false => seen.text(value),
+            };
+        }
         let what = What::Old(between(seen, word, last), better);
         found.push(warning(Kind::Deprecated, at, what))?;
     }
-    let known = new.map_or(own, |new| new.as_bytes());
+    let known = match new {
+        Some(word_now) => word_now.as_bytes().get(8..).unwrap_or(own),
+        None => own,
+    };
     if rest.first().is_some_and(|value| is_text(value.kind)) {
         if is_listed(WANT_WORDS, known) {
             found.push(warning(Kind::Deprecated, at, What::WantsWord(known)))?;

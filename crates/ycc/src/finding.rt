@@ -10,13 +10,14 @@ use yparts::parts::Parts;
 use ysymbols::{Grammar, Sym};
 use ytables::Tables;
 
-/// The word that should stand in place of another one: what stands before and behind a part of the
-/// file.
+/// The word that should stand in place of another one, with a part of the file behind it.
 #[derive(Clone, Copy)]
 pub struct Better<'a> {
-    /// What stands before it.
+    /// The word.
+    pub word: &'static str,
+    /// What stands before the part.
     pub before: &'static str,
-    /// The part of the file.
+    /// The part.
     pub part: &'a [u8],
     /// What stands behind it.
     pub behind: &'static str,

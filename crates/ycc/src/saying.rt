@@ -1,6 +1,6 @@
 //! What is said of what is found.
 
-use crate::finding::{Better, Finding, Idle, What};
+use crate::finding::{Finding, Idle, What};
 use crate::kinds::{Telling, name_of};
 use std::alloc::Global;
 use std::io::{self, Write};
@@ -37,16 +37,10 @@ fn put_word(out: &mut Output, what: What<'_>) {
         }
         What::TypedToken => out.put("POSIX yacc reserves %type to nonterminals"),
         What::TypedAction => out.put("POSIX Yacc does not support typed midrule actions"),
-        What::Old(
-            old,
-            Better {
-                before,
-                part,
-                behind,
-            },
-        ) => {
-            out.put_pieces(&[b"deprecated directive: '", old, b"', use '"]);
-            out.put_pieces(&[before.as_bytes(), part, behind.as_bytes(), b"'"]);
+        What::Old(old, better) => {
+            let (word, before) = (better.word.as_bytes(), better.before.as_bytes());
+            out.put_pieces(&[b"deprecated directive: '", old, b"', use '", word, before]);
+            out.put_pieces(&[better.part, better.behind.as_bytes(), b"'"]);
         }
         What::WantsWord(name) => {
             out.put_pieces(&[b"%define variable '", name, b"' requires keyword values"]);

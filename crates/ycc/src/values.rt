@@ -75,7 +75,8 @@ fn is_destroyed(seen: Seen<'_>, entry: Entry<'_>, sets: bool) -> bool {
             Meant::Tagged => entry.tag.is_some(),
             Meant::Untagged => entry.tag.is_none(),
         };
-        if care.deed == Deed::Destroy && is_meant && (entry.symbol.is_some() || sets) {
+        let has_value = entry.symbol.is_some() || entry.tag.is_some() || sets;
+        if care.deed == Deed::Destroy && is_meant && has_value {
             return true;
         }
     }
@@ -105,16 +106,18 @@ fn find_values<'a>(
         let is_used = uses.used.get(place) == Some(&true);
         let sets = uses.sets.get(place) == Some(&true);
         let is_inner = !entry.action.is_empty();
-        if is_used && is_inner && !sets {
-            found.push(warning(Kind::MidruleValues, entry.at, What::Unset))?;
+        let is_kept = is_destroyed(seen, *entry, sets);
+        let kind = if is_kept {
+            Kind::Other
+        } else {
+            Kind::MidruleValues
+        };
+        if is_inner && !sets && (is_kept || is_used) {
+            found.push(warning(kind, entry.at, What::Unset))?;
         }
-        if is_used || (cut.last.is_none() && place == 1) {
-            continue;
-        }
-        if is_destroyed(seen, *entry, sets) {
-            found.push(warning(Kind::Other, entry.at, What::Unused(place)))?;
-        } else if is_inner && sets {
-            found.push(warning(Kind::MidruleValues, entry.at, What::Unused(place)))?;
+        let is_default = cut.last.is_none() && place == 1;
+        if !is_used && !is_default && (is_kept || (is_inner && sets)) {
+            found.push(warning(kind, entry.at, What::Unused(place)))?;
         }
     }
     Ok(())
