@@ -3,12 +3,13 @@
 
 use crate::bodies::tag_in;
 use crate::deprecated::{find_in_define, find_in_word};
-use crate::finding::{Finding, Seen, What, warning};
+use crate::finding::{Finding, Seen, What, about_all, warning};
 use crate::kinds::Kind;
 use yexplain::reads::{Made, set};
 use yforeign::directive::{Directive, Shape, is_symbol};
 use yforeign::groups::{Group, Head};
 use yforeign::lexeme::{Kind as Form, Lexeme};
+use yforeign::numbers::is_hexadecimal;
 use yforeign::survey::{inside, is_macro, is_text};
 use ysymbols::Sym;
 use ysymbols::names::{SymbolTable, intern, is_among};
@@ -59,9 +60,7 @@ impl<'a> Declared<'a> {
             let (text, at) = (seen.text(lexeme), lexeme.span.from);
             let what = match lexeme.kind {
                 Form::Text | Form::Translated => What::NoString,
-                Form::Number if text.starts_with(b"0x") || text.starts_with(b"0X") => {
-                    What::NoHexadecimal
-                }
+                Form::Number if is_hexadecimal(text) => What::NoHexadecimal,
                 Form::Name if text.contains(&b'-') && !is_among(&self.dashed, text) => {
                     intern(seen.alloc, &mut self.dashed, text)?;
                     What::NoDash(text)
@@ -96,11 +95,11 @@ impl<'a> Declared<'a> {
     fn find_again(
         &mut self,
         symbol: Sym,
-        at: usize,
+        lexeme: &Lexeme,
         directive: Directive,
         has_tag: bool,
     ) -> Made<()> {
-        let name = self.seen.name(symbol);
+        let (name, at) = (self.seen.text(lexeme), lexeme.span.from);
         if directive.names_tokens() || directive == Directive::Nterm {
             let before = self.declared.get(symbol).copied().flatten();
             if before.is_some() {
@@ -140,7 +139,7 @@ impl<'a> Declared<'a> {
         if directive == Directive::Type && seen.grammar().is_token(symbol) {
             self.found.push(warning(Kind::Yacc, at, What::TypedToken))?;
         }
-        self.find_again(symbol, at, directive, has_tag)
+        self.find_again(symbol, lexeme, directive, has_tag)
     }
 
     /// Finds what is to be said of a string behind a token.
@@ -231,6 +230,11 @@ impl<'a> Declared<'a> {
             directive if directive.lists_tokens() => {
                 self.find_foreign(rest)?;
                 self.find_in_list(rest, directive)
+            }
+            Directive::ExpectReduce => {
+                let what = What::ExpectReduce;
+                self.found.push(about_all(Kind::Other, what))?;
+                Ok(())
             }
             Directive::Aside(Shape::BracesAndSymbols) => self.find_in_code(word, rest),
             _ => self.find_foreign(rest),

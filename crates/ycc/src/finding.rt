@@ -75,6 +75,10 @@ pub enum What<'a> {
     IdleCode(&'a [u8], &'a [u8]),
     /// `%expect-rr`.
     ExpectReduce,
+    /// `%expect-rr` in a rule.
+    RuleExpectsReduce,
+    /// Shift/reduce conflicts of a rule, found and expected.
+    OtherInRule(usize, usize, usize),
     /// An empty rule without `%empty`.
     Empty,
     /// An empty rule of a symbol with a tag, without an action.

@@ -136,7 +136,7 @@ fn find_idle<'a>(
         }
         set(is_told, token, true);
         if let Some(idle) = idle_of(seen, settled, token) {
-            let what = What::Idle(idle, seen.name(token));
+            let what = What::Idle(idle, seen.text(lexeme));
             found.push(warning(Kind::Precedence, at, what))?;
         }
     }

@@ -7,7 +7,7 @@
 //! the texts and writes them, and `ending` says how a run ends.
 //!
 //! `finding` has what deserves a warning, as values; `bodies` cuts the bodies of a file; `deprecated`
-//! and `declared` seek in declarations, `values` in bodies, `useless` and `levels` in the tables;
+//! and `declared` seek in declarations, `values` and `expects` in bodies, `useless` and `levels` in the tables;
 //! `saying` has the words, and `warnings` tells what is to be told.
 #![tactic(auto)]
 
@@ -15,6 +15,7 @@ mod bodies;
 mod declared;
 mod deprecated;
 mod ending;
+mod expects;
 mod finding;
 mod help;
 mod kinds;

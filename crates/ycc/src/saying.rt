@@ -16,10 +16,20 @@ fn put_count(out: &mut Output, count: usize, (one, several): (&str, &str), behin
     out.put(behind);
 }
 
-/// Writes how many conflicts were found, and how many are expected.
-fn put_expected(out: &mut Output, what: &str, found: usize, expected: usize) {
+/// Writes how many conflicts were found, and how many are expected, of a rule or of all.
+fn put_expected(
+    out: &mut Output,
+    what: &str,
+    rule: Option<usize>,
+    (found, expected): (usize, usize),
+) {
     out.put(what);
-    out.put(" conflicts: ");
+    out.put(" conflicts");
+    if let Some(rule) = rule {
+        out.put(" for rule ");
+        out.number(rule);
+    }
+    out.put(": ");
     out.number(found);
     out.put(" found, ");
     out.number(expected);
@@ -53,6 +63,7 @@ fn put_word(out: &mut Output, what: What<'_>) {
         }
         What::Comma => out.put("stray ',' treated as white space"),
         What::ExpectReduce => out.put("%expect-rr applies only to GLR parsers"),
+        What::RuleExpectsReduce => out.put("%expect-rr affects only GLR parsers"),
         _ => {}
     }
 }
@@ -144,10 +155,13 @@ fn put_what(out: &mut Output, what: What<'_>) {
             );
         }
         What::OtherShifts(found, expected) => {
-            put_expected(out, "shift/reduce", found, expected);
+            put_expected(out, "shift/reduce", None, (found, expected));
         }
         What::OtherReduces(found, expected) => {
-            put_expected(out, "reduce/reduce", found, expected);
+            put_expected(out, "reduce/reduce", None, (found, expected));
+        }
+        What::OtherInRule(rule, found, expected) => {
+            put_expected(out, "shift/reduce", Some(rule), (found, expected));
         }
         what => put_symbol(out, what),
     }
@@ -157,7 +171,11 @@ fn put_what(out: &mut Output, what: What<'_>) {
 fn is_conflict(what: What<'_>) -> bool {
     matches!(
         what,
-        What::Shifts(_) | What::Reduces(_) | What::OtherShifts(..) | What::OtherReduces(..)
+        What::Shifts(_)
+            | What::Reduces(_)
+            | What::OtherShifts(..)
+            | What::OtherReduces(..)
+            | What::OtherInRule(..)
     )
 }
 

@@ -3,6 +3,7 @@
 use crate::bodies::bodies_of;
 use crate::declared::Declared;
 use crate::ending::{Ending, File};
+use crate::expects::find_expected;
 use crate::finding::{Finding, Seen, What, about_all};
 use crate::kinds::{Kind, Kinds, Telling};
 use crate::levels::find_levels;
@@ -75,6 +76,7 @@ fn find_all<'a>(seen: Seen<'a>, kinds: Wanted) -> Made<Vec<Finding<'a>>> {
     let mut found = mem::replace(&mut declared.found, none);
     let bodies = bodies_of(seen)?;
     find_in_bodies(seen, &bodies, &mut found)?;
+    find_expected(seen, &bodies, &mut found)?;
     if kinds.tells(Kind::Other) {
         find_useless(seen, &bodies, declared.strangers, &mut found)?;
     }
