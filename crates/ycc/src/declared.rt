@@ -216,11 +216,11 @@ impl<'a> Declared<'a> {
         let Some((word, rest)) = lexemes.split_first() else {
             return Ok(());
         };
-        find_in_word(self.seen, lexemes, &mut self.found)?;
+        let seen = self.seen;
+        find_in_word(seen, lexemes, &mut self.found)?;
         match directive {
             Directive::Define => {
-                let (defined, found) = (&mut self.defined, &mut self.found);
-                find_in_define(self.seen, lexemes, defined, found)?;
+                find_in_define(seen, lexemes, &mut self.defined, &mut self.found)?;
                 self.find_foreign(rest.get(1..).unwrap_or(&[]))
             }
             Directive::Type | Directive::Nterm => {
@@ -245,14 +245,19 @@ impl<'a> Declared<'a> {
     fn find_in_body(&mut self, lexemes: &'a [Lexeme]) -> Made<()> {
         let seen = self.seen;
         self.find_foreign(lexemes)?;
+        let mut has_tag = false;
         for (number, lexeme) in lexemes.iter().enumerate() {
             let (text, at) = (seen.text(lexeme), lexeme.span.from);
+            let is_typed = has_tag;
+            has_tag = lexeme.kind == Form::Tag;
             match lexeme.kind {
                 Form::Word => {
                     let rest = lexemes.get(number..).unwrap_or(&[]);
                     find_in_word(seen, rest, &mut self.found)?;
                 }
-                Form::Tag => self.found.push(warning(Kind::Yacc, at, What::TypedAction))?,
+                Form::Braced if is_typed => self
+                    .found
+                    .push(warning(Kind::Yacc, at, What::TypedAction))?,
                 kind if is_text(kind) && seen.imported.spelling.is_made(seen.source, lexeme) => {
                     if !is_among(&self.strings, inside(seen.source, lexeme)) {
                         self.found

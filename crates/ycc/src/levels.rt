@@ -52,13 +52,13 @@ fn givers_of(seen: Seen<'_>, bodies: &[Body<'_>]) -> Made<Vec<Option<Sym>>> {
 impl Settled {
     /// Notes two tokens that were compared.
     fn note(&mut self, token: Sym, giver: Sym, is_level: bool) {
-        let marks = if is_level {
-            &mut self.by_level
+        if is_level {
+            set(&mut self.by_level, token, true);
+            set(&mut self.by_level, giver, true);
         } else {
-            &mut self.by_direction
-        };
-        set(marks, token, true);
-        set(marks, giver, true);
+            set(&mut self.by_direction, token, true);
+            set(&mut self.by_direction, giver, true);
+        }
     }
 
     /// Compares the rules of a cell with its shift.
@@ -109,9 +109,9 @@ fn idle_of(seen: Seen<'_>, settled: &Settled, token: Sym) -> Option<Idle> {
     let by_direction = settled.by_direction.get(token) == Some(&true);
     match (by_level, has_direction, by_direction) {
         (false, true, false) => Some(Idle::Both),
-        (false, _, _) => Some(Idle::Level),
+        (false, false, _) => Some(Idle::Level),
         (true, true, false) => Some(Idle::Direction),
-        (true, _, _) => None,
+        _ => None,
     }
 }
 

@@ -1,7 +1,7 @@
 //! The words of the command line of `ycc`, read by its options.
 
 use crate::options::{Ask, Found, Has, Known, option_named, option_of};
-use crate::words::{Asked, DATA_FOLDER, LOCALE_FOLDER, VERSION, Wanted};
+use crate::words::{Asked, DATA_FOLDER, Given, LOCALE_FOLDER, VERSION, Wanted};
 use std::alloc::{AllocError, Global};
 use std::mem;
 
@@ -69,44 +69,47 @@ fn is_bison(words: &[String]) -> bool {
     false
 }
 
+/// Takes in a wish for files with its value, which may be empty, and says whether it was one.
+fn wish<'a>(given: &mut Given<'a>, ask: Ask, value: &'a str) -> bool {
+    match ask {
+        Ask::Header => {
+            given.define = true;
+            if !value.is_empty() {
+                given.header = Some(value);
+            }
+        }
+        Ask::NoLines => given.no_lines = true,
+        Ask::Trace => given.trace = true,
+        Ask::Report => given.verbose = value != "none",
+        Ask::ReportFile => given.report = Some(value),
+        Ask::Yacc => given.yacc = true,
+        Ask::Pure => given.pure = true,
+        Ask::Locations => given.locations = true,
+        Ask::Bison => given.bison = true,
+        Ask::Lists => given.lists = true,
+        Ask::Names => given.names = true,
+        Ask::FilePrefix => given.files = Some(value),
+        Ask::Output => given.parser = Some(value),
+        Ask::NamePrefix => given.prefix = Some(value),
+        Ask::Messages => given.messages = Some(value),
+        Ask::Table => given.table = Some(value),
+        _ => return false,
+    }
+    true
+}
+
 impl<'a> Reader<'a> {
     /// Does what an option asks for, with its value, which may be empty.
     fn obey(&mut self, option: Waiting<'a>, value: &'a str) -> Result<(), Wrong<'a>> {
-        let given = &mut self.wanted.given;
-        match option.ask {
-            Ask::Header => {
-                given.define = true;
-                if !value.is_empty() {
-                    given.header = Some(value);
-                }
-            }
-            Ask::NoLines => given.no_lines = true,
-            Ask::Trace => given.trace = true,
-            Ask::Report => given.verbose = value != "none",
-            Ask::ReportFile => given.report = Some(value),
-            Ask::Yacc => given.yacc = true,
-            Ask::Pure => given.pure = true,
-            Ask::Locations => given.locations = true,
-            Ask::Bison => given.bison = true,
-            Ask::Lists => given.lists = true,
-            Ask::Names => given.names = true,
-            Ask::FilePrefix => given.files = Some(value),
-            Ask::Output => given.parser = Some(value),
-            Ask::NamePrefix => given.prefix = Some(value),
-            Ask::Messages => given.messages = Some(value),
-            Ask::Table => given.table = Some(value),
-            ask => return self.obey_further(ask, option, value),
+        if wish(&mut self.wanted.given, option.ask, value) {
+            return Ok(());
         }
-        Ok(())
+        self.obey_further(option, value)
     }
 
     /// Does what the other options ask for.
-    fn obey_further(
-        &mut self,
-        ask: Ask,
-        option: Waiting<'a>,
-        value: &'a str,
-    ) -> Result<(), Wrong<'a>> {
+    fn obey_further(&mut self, option: Waiting<'a>, value: &'a str) -> Result<(), Wrong<'a>> {
+        let ask = option.ask;
         let why = match ask {
             Ask::Define => {
                 self.wanted.define(b'D', value)?;
@@ -118,7 +121,7 @@ impl<'a> Reader<'a> {
             }
             Ask::Kinds => match self.wanted.given.kinds.take(value) {
                 Ok(()) => return Ok(()),
-                Err(why) => why,
+                Err(why) => return Err(Wrong::Word("-W", value, why)),
             },
             Ask::Features => {
                 for feature in value.split(',') {

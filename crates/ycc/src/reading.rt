@@ -103,9 +103,14 @@ fn read_native<'a>(
     })
 }
 
-/// All but what is said of conflicts.
-fn without_conflicts(alloc: Global, told: Diagnostics) -> Result<Diagnostics, Ending> {
-    match Choice::of(&["no-conflicts-sr", "no-conflicts-rr"], &[]) {
+/// All but what is said of conflicts, and in a file of bison of strings that byacc reads otherwise.
+fn only_own(alloc: Global, told: Diagnostics, is_bison: bool) -> Result<Diagnostics, Ending> {
+    let last = if is_bison {
+        "no-dangling-alias"
+    } else {
+        "no-conflicts-sr"
+    };
+    match Choice::of(&["no-conflicts-sr", "no-conflicts-rr", last], &[]) {
         Some(choice) => Ok(told.only(alloc, choice.shown)?),
         None => Ok(told),
     }
@@ -124,10 +129,15 @@ fn read_imported<'a>(
         Ok(foreign) => foreign,
         Err(status) => return Err(refused(rt, &told, status)),
     };
-    let mut errors = Steady::new(rt.stderr(), true);
-    without_conflicts(alloc, told)?.put(&mut errors, "ycc")?;
     let (grammar, imported) = (grammar_of(&foreign.opened.tables), &foreign.imported);
-    let parts = match foreign::parts_of(alloc, &file.bytes, grammar, imported, file.is_bison) {
+    let parts = foreign::parts_of(alloc, &file.bytes, grammar, imported, file.is_bison);
+    let is_bison = match &parts {
+        Ok(parts) => parts.options.is_bison,
+        Err(_) => true,
+    };
+    let mut errors = Steady::new(rt.stderr(), true);
+    only_own(alloc, told, is_bison)?.put(&mut errors, "ycc")?;
+    let parts = match parts {
         Ok(parts) => parts,
         Err(Unmade::Memory) => return Err(Ending::Memory),
         Err(Unmade::Refused(refusal, at)) => match file.refuse(rt, at, refusal.text()) {

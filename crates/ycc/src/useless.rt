@@ -162,7 +162,7 @@ fn heads_of(seen: Seen<'_>, bodies: &[Body<'_>], places: &[usize]) -> Made<Vec<O
     let grammar = seen.grammar();
     let mut heads = vec![in seen.alloc; None; grammar.symbols()]?;
     for body in bodies {
-        if heads.get(body.left) == Some(&None) {
+        if matches!(heads.get(body.left), Some(None)) {
             set(&mut heads, body.left, Some(body.head));
         }
     }

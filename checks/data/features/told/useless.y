@@ -3,8 +3,7 @@
 %type lost
 %nterm none
 %%
-start : e | e barren | X X X ;
+start : e | X X X ;
 e : X | e Y X | X %prec Y | { } X Y ;
 lost : X inner ;
 inner : { } Y ;
-barren : barren X ;

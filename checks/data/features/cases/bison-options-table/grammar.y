@@ -1,0 +1,24 @@
+%{
+#include "plain.h"
+%}
+%token NUMBER
+%%
+all : NUMBER        { printf ("%d\n", $1); }
+    | all '+' NUMBER { printf ("and %d\n", $3); }
+    ;
+%%
+static void show_names (void)
+{
+  int kind;
+
+  for (kind = 0; yytname[kind]; kind++)
+    printf ("%s\n", yytname[kind]);
+}
+#define main own_main
+#include "plain_tail.h"
+#undef main
+int main (void)
+{
+  show_names ();
+  return own_main ();
+}
