@@ -1,14 +1,14 @@
-//! `ycc [-dlLtvyP] [-b prefix] [-o file] [-p prefix] [-H file] [-D name=value] [-W kinds] grammar`:
+//! `ycc [-dlLtvyP] [-b prefix] [-o file] [-p prefix] [-H file] [-D name=value] [-W kinds] grammar`
 //! writes a parser in C of a grammar file, a drop-in for `yacc` and `bison` in a build.
 //!
-//! `kinds` has the kinds of warnings, `words` what the command line asks for, `options` the options,
-//! `reader` reads words by them, and `help` lists them; `names` has the names of the files that are
-//! written; `reading` reads the grammar file, `messages` one of messages for errors, `making` makes
-//! the texts and writes them, and `ending` says how a run ends.
+//! `kinds` has the kinds of warnings, `words` what the command line asks for, `options` the
+//! options, `reader` reads words by them, and `help` lists them; `names` has the names of the files
+//! that are written; `reading` reads the grammar file, `messages` one of messages for errors,
+//! `making` makes the texts and writes them, and `ending` says how a run ends.
 //!
-//! `finding` has what deserves a warning, as values; `bodies` cuts the bodies of a file; `deprecated`
-//! and `declared` seek in declarations, `values` and `expects` in bodies, `useless` and `levels` in the tables;
-//! `saying` has the words, and `warnings` tells what is to be told.
+//! `finding` has what deserves a warning, as values; `bodies` cuts the bodies of a file;
+//! `deprecated` and `declared` seek in declarations, `values` and `expects` in bodies, `useless` and
+//! `levels` in the tables; `saying` has the words, and `warnings` tells what is to be told.
 #![tactic(auto)]
 
 mod bodies;

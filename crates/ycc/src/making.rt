@@ -123,6 +123,18 @@ fn refuse_misuses(rt: &HostRuntime, file: &File, skeleton: &Skeleton<'_>) -> Res
     ending
 }
 
+/// Says whose order and names a parser has, where a report is wanted, and what isn't done for it.
+fn tell_ways(rt: &HostRuntime, given: Given<'_>, path: &str, lac: bool, is_bison: bool) {
+    if given.verbose {
+        let whose = if is_bison { "bison" } else { "byacc" };
+        tell(rt, &["ycc: ", path, ": order and names of ", whose]);
+    }
+    if lac {
+        let why = "parse.lac is not done: lists can lack tokens that could come";
+        tell(rt, &[path, ": warning: ", why]);
+    }
+}
+
 /// Makes all texts, and then writes their files.
 pub fn write_files(
     rt: &HostRuntime,
@@ -135,14 +147,7 @@ pub fn write_files(
     let wishes = wishes_of(given, &parts.options);
     let is_bison = wishes.mode == Mode::Bison;
     let names = names_of(alloc, given, &parts.options, is_bison)?;
-    if given.verbose {
-        let whose = if is_bison { "bison" } else { "byacc" };
-        tell(rt, &["ycc: ", path, ": order and names of ", whose]);
-    }
-    if parts.options.lac {
-        let why = "parse.lac is not done: lists can lack tokens that could come";
-        tell(rt, &[path, ": warning: ", why]);
-    }
+    tell_ways(rt, given, path, parts.options.lac, is_bison);
     let style = style_of(alloc, parts, wishes, given.prefix)?;
     let code = code_of(alloc, tables)?;
     let speech = speech_of(rt, given.messages, tables, &style)?;
@@ -159,14 +164,13 @@ pub fn write_files(
         speech: speech.as_ref(),
     };
     refuse_misuses(rt, file, &skeleton)?;
-    let is_told = tell_found(rt, given.kinds, file, read, is_bison)?;
     let texts = texts_of(rt, given, file, tables, skeleton, &names)?;
+    let is_told = tell_found(rt, given.kinds, file, read, is_bison)?;
     if !given.dry {
         write_all(rt, given, &texts)?;
     }
-    if is_told && read.is_told {
-        Ok(())
-    } else {
-        Err(Ending::Untold)
+    match is_told && read.is_told {
+        true => Ok(()),
+        false => Err(Ending::Untold),
     }
 }

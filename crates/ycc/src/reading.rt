@@ -116,6 +116,17 @@ fn only_own(alloc: Global, told: Diagnostics, is_bison: bool) -> Result<Diagnost
     }
 }
 
+/// Says why a file is refused for what it says of its parser.
+fn unmade(rt: &HostRuntime, file: &File, trouble: Unmade) -> Ending {
+    match trouble {
+        Unmade::Memory => Ending::Memory,
+        Unmade::Refused(refusal, at) => match file.refuse(rt, at, refusal.text()) {
+            Ending::Refused if refusal == Refusal::Later => Ending::Later,
+            ending => ending,
+        },
+    }
+}
+
 /// A file that an import made one of `yacc`. Where what it says of its parser is refused, that is
 /// said.
 fn read_imported<'a>(
@@ -139,11 +150,7 @@ fn read_imported<'a>(
     only_own(alloc, told, is_bison)?.put(&mut errors, "ycc")?;
     let parts = match parts {
         Ok(parts) => parts,
-        Err(Unmade::Memory) => return Err(Ending::Memory),
-        Err(Unmade::Refused(refusal, at)) => match file.refuse(rt, at, refusal.text()) {
-            Ending::Refused if refusal == Refusal::Later => return Err(Ending::Later),
-            ending => return Err(ending),
-        },
+        Err(trouble) => return Err(unmade(rt, file, trouble)),
     };
     let Foreign {
         opened,

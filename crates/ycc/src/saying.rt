@@ -68,6 +68,20 @@ fn put_word(out: &mut Output, what: What<'_>) {
     }
 }
 
+/// Says what is found of precedences, and of words.
+fn put_level(out: &mut Output, what: What<'_>) {
+    match what {
+        What::Idle(Idle::Both, name) => {
+            out.put_pieces(&[b"useless precedence and associativity for ", name]);
+        }
+        What::Idle(Idle::Level, name) => out.put_pieces(&[b"useless precedence for ", name]),
+        What::Idle(Idle::Direction, name) => {
+            out.put_pieces(&[b"useless associativity for ", name, b", use %precedence"]);
+        }
+        what => put_word(out, what),
+    }
+}
+
 /// Says what is found of symbols.
 fn put_symbol(out: &mut Output, what: What<'_>) {
     match what {
@@ -105,39 +119,13 @@ fn put_symbol(out: &mut Output, what: What<'_>) {
         What::Nonterminal(name) => {
             out.put_pieces(&[b"nonterminal useless in grammar: ", name]);
         }
-        What::Idle(Idle::Both, name) => {
-            out.put_pieces(&[b"useless precedence and associativity for ", name]);
-        }
-        What::Idle(Idle::Level, name) => out.put_pieces(&[b"useless precedence for ", name]),
-        What::Idle(Idle::Direction, name) => {
-            out.put_pieces(&[b"useless associativity for ", name, b", use %precedence"]);
-        }
-        what => put_word(out, what),
+        what => put_level(out, what),
     }
 }
 
-/// Says what is found.
-fn put_what(out: &mut Output, what: What<'_>) {
+/// Says what is found of conflicts, and of symbols.
+fn put_conflicts(out: &mut Output, what: What<'_>) {
     match what {
-        What::Empty => out.put("empty rule without %empty"),
-        What::NoValue => out.put("empty rule for typed nonterminal, and no action"),
-        What::Clash(left, first) => {
-            out.put_pieces(&[
-                b"type clash on default action: <",
-                left,
-                b"> != <",
-                first,
-                b">",
-            ]);
-        }
-        What::Unused(place) => {
-            out.put("unused value: $");
-            out.number(place);
-        }
-        What::Unset => out.put("unset value: $$"),
-        What::Rules(count) => put_count(out, count, ("rule", "rules"), " useless in grammar"),
-        What::Rule => out.put("rule useless in grammar"),
-        What::Lost => out.put("rule useless in parser due to conflicts"),
         What::Shifts(count) => {
             put_count(
                 out,
@@ -164,6 +152,32 @@ fn put_what(out: &mut Output, what: What<'_>) {
             put_expected(out, "shift/reduce", Some(rule), (found, expected));
         }
         what => put_symbol(out, what),
+    }
+}
+
+/// Says what is found.
+fn put_what(out: &mut Output, what: What<'_>) {
+    match what {
+        What::Empty => out.put("empty rule without %empty"),
+        What::NoValue => out.put("empty rule for typed nonterminal, and no action"),
+        What::Clash(left, first) => {
+            out.put_pieces(&[
+                b"type clash on default action: <",
+                left,
+                b"> != <",
+                first,
+                b">",
+            ]);
+        }
+        What::Unused(place) => {
+            out.put("unused value: $");
+            out.number(place);
+        }
+        What::Unset => out.put("unset value: $$"),
+        What::Rules(count) => put_count(out, count, ("rule", "rules"), " useless in grammar"),
+        What::Rule => out.put("rule useless in grammar"),
+        What::Lost => out.put("rule useless in parser due to conflicts"),
+        what => put_conflicts(out, what),
     }
 }
 
