@@ -148,10 +148,7 @@ fn read_imported<'a>(
     };
     let mut errors = Steady::new(rt.stderr(), true);
     only_own(alloc, told, is_bison)?.put(&mut errors, "ycc")?;
-    let parts = match parts {
-        Ok(parts) => parts,
-        Err(trouble) => return Err(unmade(rt, file, trouble)),
-    };
+    let parts = parts.map_err(|trouble| unmade(rt, file, trouble))?;
     let Foreign {
         opened,
         imported,
