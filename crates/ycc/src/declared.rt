@@ -28,6 +28,8 @@ pub struct Declared<'a> {
     tagged: Vec<Option<usize>>,
     /// The strings that stand for tokens.
     strings: SymbolTable,
+    /// Which symbols have one.
+    aliased: Vec<bool>,
     /// The names without rules that were met.
     met: SymbolTable,
     /// The names with a dash that were met.
@@ -47,6 +49,7 @@ impl<'a> Declared<'a> {
             declared: vec![in alloc; None; symbols]?,
             tagged: vec![in alloc; None; symbols]?,
             strings: SymbolTable::new(alloc),
+            aliased: vec![in alloc; false; symbols]?,
             met: SymbolTable::new(alloc),
             dashed: SymbolTable::new(alloc),
             defined: SymbolTable::new(alloc),
@@ -143,34 +146,39 @@ impl<'a> Declared<'a> {
     }
 
     /// Finds what is to be said of a string behind a token.
-    fn find_string(&mut self, lexeme: &Lexeme) -> Made<()> {
+    fn find_string(&mut self, token: &Lexeme, lexeme: &Lexeme) -> Made<()> {
         let (seen, at) = (self.seen, lexeme.span.from);
         let text = inside(seen.source, lexeme);
+        let symbol = seen.symbol(token)?.unwrap_or(0);
         if is_among(&self.strings, text) {
             let what = What::SecondString(seen.text(lexeme));
             self.found.push(warning(Kind::Other, at, what))?;
+        } else if self.aliased.get(symbol) == Some(&true) {
+            let what = What::SecondAlias(seen.text(token));
+            self.found.push(warning(Kind::Other, at, what))?;
         }
+        set(&mut self.aliased, symbol, true);
         intern(seen.alloc, &mut self.strings, text)
     }
 
     /// Finds what is to be said of a list of symbols.
     fn find_in_list(&mut self, lexemes: &[Lexeme], directive: Directive) -> Made<()> {
         let mut has_tag = false;
-        let mut is_token = false;
+        let mut token: Option<Lexeme> = None;
         for (number, lexeme) in lexemes.iter().enumerate() {
             let kind = lexeme.kind;
-            if kind == Form::Comma {
+            let before = token.filter(|_| is_text(kind) && directive.names_tokens());
+            if let Some(before) = before {
+                self.find_string(&before, lexeme)?;
+                token = None;
+            } else if kind == Form::Comma {
                 self.found
                     .push(warning(Kind::Other, lexeme.span.from, What::Comma))?;
-            }
-            if is_text(kind) && is_token && directive.names_tokens() {
-                self.find_string(lexeme)?;
-                is_token = false;
             } else if kind == Form::Tag {
                 has_tag = true;
             } else if is_symbol(kind) && !is_macro(lexemes, number) {
                 self.find_symbol(lexeme, directive, has_tag)?;
-                is_token = true;
+                token = Some(*lexeme);
             }
         }
         Ok(())

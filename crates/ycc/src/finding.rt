@@ -65,6 +65,8 @@ pub enum What<'a> {
     Retagged(&'a [u8]),
     /// A string that stands for a token already.
     SecondString(&'a [u8]),
+    /// A token that has a string already.
+    SecondAlias(&'a [u8]),
     /// A string that stands for no token.
     Loose(&'a [u8]),
     /// A name that is neither a token nor has rules.

@@ -7,8 +7,8 @@
 //! `making` makes the texts and writes them, and `ending` says how a run ends.
 //!
 //! `finding` has what deserves a warning, as values; `bodies` cuts the bodies of a file;
-//! `deprecated` and `declared` seek in declarations, `values` and `expects` in bodies, `useless`
-//! and `levels` in the tables; `saying` has the words, and `warnings` tells what is to be told.
+//! `deprecated` and `declared` seek in declarations, `values` and `expects` in bodies, `walk`,
+//! `useless` and `levels` in the tables; `saying` has the words, and `warnings` tells what is to be told.
 #![tactic(auto)]
 
 mod bodies;
@@ -29,6 +29,7 @@ mod reading;
 mod saying;
 mod useless;
 mod values;
+mod walk;
 mod warnings;
 mod words;
 

@@ -94,6 +94,9 @@ fn put_symbol(out: &mut Output, what: What<'_>) {
                 b" used more than once as a literal string",
             ]);
         }
+        What::SecondAlias(name) => {
+            out.put_pieces(&[b"symbol ", name, b" given more than one literal string"]);
+        }
         What::Loose(text) => {
             out.put_pieces(&[b"string literal ", text, b" not attached to a symbol"]);
         }

@@ -3,11 +3,11 @@
 use crate::bodies::Body;
 use crate::finding::{Finding, Seen, What, about_all, warning};
 use crate::kinds::Kind;
+use crate::walk::Walk;
 use std::alloc::Global;
 use yexplain::lines::is_inner;
-use yexplain::reads::{Made, action_of, body_of, goto_of, left_of, set};
+use yexplain::reads::{Made, body_of, left_of, set};
 use ysymbols::{Grammar, Sym};
-use ytables::{Action, Tables};
 
 /// Which symbols and rules sentences need.
 #[derive(Drop)]
@@ -88,61 +88,6 @@ impl Needed {
     }
 }
 
-/// The rules that are reduced in states which a parse can come to.
-#[derive(Drop)]
-struct Walk {
-    reached: Vec<usize>,
-    is_reached: Vec<bool>,
-    reduced: Vec<bool>,
-}
-
-impl Walk {
-    /// Comes to a state.
-    fn come_to(&mut self, state: usize) -> Made<()> {
-        if self.is_reached.get(state) == Some(&false) {
-            set(&mut self.is_reached, state, true);
-            self.reached.push(state)?;
-        }
-        Ok(())
-    }
-
-    /// Looks at a state.
-    fn look_at(&mut self, tables: &Tables, state: usize) -> Made<()> {
-        let grammar = tables.automaton().grammar();
-        for symbol in 0..grammar.symbols() {
-            if grammar.is_token(symbol) {
-                match action_of(tables, state, symbol) {
-                    Action::Reduce(rule) => set(&mut self.reduced, rule, true),
-                    Action::Shift(next) => self.come_to(next)?,
-                    _ => {}
-                }
-            } else if let Some(next) = goto_of(tables.automaton(), state, symbol) {
-                self.come_to(next)?;
-            }
-        }
-        Ok(())
-    }
-}
-
-/// Which rules are reduced in states that a parse can come to.
-fn reduced_in(alloc: Global, tables: &Tables) -> Made<Vec<bool>> {
-    let (states, grammar) = (tables.automaton().states(), tables.automaton().grammar());
-    let mut walk = Walk {
-        reached: Vec::new(alloc),
-        is_reached: vec![in alloc; false; states]?,
-        reduced: vec![in alloc; false; grammar.rules()]?,
-    };
-    walk.come_to(0)?;
-    for at in 0..states {
-        let Some(state) = walk.reached.get(at).copied() else {
-            break;
-        };
-        walk.look_at(tables, state)?;
-    }
-    let Walk { reduced, .. } = walk;
-    Ok(reduced)
-}
-
 /// Where each rule stands: in its body, or as an action there.
 fn rule_places(seen: Seen<'_>, bodies: &[Body<'_>]) -> Made<Vec<usize>> {
     let mut places = vec![in seen.alloc; 0; seen.grammar().rules()]?;
@@ -217,7 +162,7 @@ pub fn find_useless<'a>(
     let places = rule_places(seen, bodies)?;
     let heads = heads_of(seen, bodies, &places)?;
     find_nonterminals(seen, &needed, &heads, more, found)?;
-    let reduced = reduced_in(seen.alloc, seen.tables)?;
+    let walk = Walk::new(seen.alloc, seen.tables)?;
     for rule in 1..grammar.rules() {
         let at = places.get(rule).copied().unwrap_or(0);
         let left = left_of(grammar, rule).unwrap_or(0);
@@ -227,7 +172,7 @@ pub fn find_useless<'a>(
         }
         if !is_needed {
             found.push(warning(Kind::Other, at, What::Rule))?;
-        } else if reduced.get(rule) != Some(&true) {
+        } else if walk.reduced.get(rule) != Some(&true) {
             found.push(warning(Kind::Other, at, What::Lost))?;
         }
     }

@@ -11,6 +11,8 @@ use crate::reading::Reading;
 use crate::saying::{diagnostic_of, put_counts};
 use crate::useless::find_useless;
 use crate::values::find_in_bodies;
+use crate::walk::{Conflicts, Walk};
+use std::alloc::Global;
 use std::mem;
 use yexplain::reads::Made;
 use yfiles::diagnostic::Diagnostics;
@@ -32,11 +34,27 @@ fn other<'a>(expected: Option<Expected>, at: Option<usize>, what: What<'a>) -> F
 }
 
 impl Reading<'_> {
+    /// The conflicts of the file: as yacc counts them, but in bison's dialect as that does.
+    fn conflicts(&self, alloc: Global, is_bison: bool) -> Made<Conflicts> {
+        if is_bison && self.imported.is_none() {
+            return Ok(Walk::new(alloc, &self.tables)?.conflicts(&self.tables));
+        }
+        Ok(Conflicts {
+            shifts: self.shift_reduce,
+            reduces: self.reduce_reduce,
+        })
+    }
+
     /// Finds the numbers of conflicts that the file doesn't expect, and those of which it expects
     /// nothing. In bison's dialect `%expect` expects no reduce/reduce conflicts, and `%expect-rr`
     /// is for another kind of parser.
-    fn find_conflicts<'a>(&self, is_bison: bool, found: &mut Vec<Finding<'a>>) -> Made<()> {
-        let (shifts, reduces) = (self.shift_reduce, self.reduce_reduce);
+    fn find_conflicts<'a>(
+        &self,
+        alloc: Global,
+        is_bison: bool,
+        found: &mut Vec<Finding<'a>>,
+    ) -> Made<()> {
+        let Conflicts { shifts, reduces } = self.conflicts(alloc, is_bison)?;
         let rest = if is_bison { None } else { self.expected_reduce };
         let place = self.expected_shift.map(|it| it.span.from);
         match self.expected_shift {
@@ -197,7 +215,7 @@ fn end(
         found.retain(|finding| finding.kind.is_some());
     }
     found.sort_by_key(|finding| finding.at.map_or(0, |at| at.saturating_add(1)))?;
-    read.find_conflicts(wanted.is_bison, &mut found)?;
+    read.find_conflicts(rt.alloc(), wanted.is_bison, &mut found)?;
     let (is_refused, is_told) = tell(rt, file, wanted, &found)?;
     if is_refused {
         Err(Ending::Refused)

@@ -2,6 +2,8 @@
 %token NUM "number" PLUS "plus"
 %token STR "number"
 %token ID "id" ID "id", OTHER
+%token AND "and"
+%token AND "&&"
 %type start unused
 %type nowhere
 %destructor { } absent <gone>
@@ -10,4 +12,4 @@
 %define api.pure
 %start start
 %%
-start : NUM PLUS STR | start ID OTHER ;
+start : NUM PLUS STR | AND | start ID OTHER ;

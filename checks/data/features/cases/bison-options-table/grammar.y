@@ -12,7 +12,8 @@ static void show_names (void)
   int kind;
 
   for (kind = 0; yytname[kind]; kind++)
-    printf ("%s\n", yytname[kind]);
+    if (yytname[kind][0] == 'N' || yytname[kind][0] == '\'')
+      printf ("%s\n", yytname[kind]);
 }
 #define main own_main
 #include "plain_tail.h"
