@@ -5,12 +5,14 @@ use crate::bodies::tag_in;
 use crate::deprecated::{find_in_define, find_in_word};
 use crate::finding::{Finding, Seen, What, about_all, warning};
 use crate::kinds::Kind;
-use yexplain::reads::{Made, set};
-use yforeign::directive::{Directive, Shape, is_symbol};
+use yexplain::reads::{Made, name_of, set};
+use yforeign::directive::{Directive, Shape, is_symbol, is_word};
 use yforeign::groups::{Group, Head};
 use yforeign::lexeme::{Kind as Form, Lexeme};
 use yforeign::numbers::is_hexadecimal;
 use yforeign::survey::{inside, is_macro, is_text};
+use ylalr::{END, ERROR};
+use yparts::parts::{Deed, Whose};
 use ysymbols::Sym;
 use ysymbols::names::{SymbolTable, intern, is_among};
 
@@ -187,23 +189,16 @@ impl<'a> Declared<'a> {
     /// Finds what is to be said of code for values: whether a symbol has these.
     fn find_in_code(&mut self, word: &Lexeme, lexemes: &[Lexeme]) -> Made<()> {
         let seen = self.seen;
+        let directive = seen.text(word);
         for lexeme in lexemes {
             let (text, at) = (seen.text(lexeme), lexeme.span.from);
-            let is_idle = match lexeme.kind {
-                Form::Comma => {
-                    self.found.push(warning(Kind::Other, at, What::Comma))?;
-                    continue;
-                }
+            let what = match lexeme.kind {
+                Form::Comma => What::Comma,
                 Form::Tag => match tag_in(text) {
-                    b"" => continue,
-                    b"*" => !seen.parts.has_tags(),
-                    tag => {
-                        if !seen.has_tag(tag) {
-                            self.found
-                                .push(warning(Kind::Other, at, What::NoSymbol(text)))?;
-                        }
-                        continue;
-                    }
+                    b"" | b"*" if seen.has_use(directive, text == b"<*>".as_slice()) => continue,
+                    b"" | b"*" => What::IdleCode(directive, text),
+                    tag if seen.has_tag(tag) => continue,
+                    _ => What::NoSymbol(text),
                 },
                 kind if is_symbol(kind) => {
                     self.find_symbol(lexeme, Directive::Unknown, false)?;
@@ -211,10 +206,7 @@ impl<'a> Declared<'a> {
                 }
                 _ => continue,
             };
-            if is_idle {
-                let what = What::IdleCode(seen.text(word), text);
-                self.found.push(warning(Kind::Other, at, what))?;
-            }
+            self.found.push(warning(Kind::Other, at, what))?;
         }
         Ok(())
     }
@@ -294,6 +286,42 @@ impl Seen<'_> {
     fn has_tag(self, tag: &[u8]) -> bool {
         for looks in &self.parts.looks {
             if looks.tag == Some(tag) {
+                return true;
+            }
+        }
+        false
+    }
+
+    /// Whether code for all symbols with tags, or for all without, is that of a symbol: one that the
+    /// file names, that isn't `error` and has no code of its own, nor by its tag.
+    fn has_use(self, directive: &[u8], is_tagged: bool) -> bool {
+        let deed = match is_word(directive, "%destructor") {
+            true => Deed::Destroy,
+            false => Deed::Print,
+        };
+        for symbol in 0..self.grammar().symbols() {
+            let tag = self.parts.tag_of(symbol);
+            let is_named = match symbol {
+                END => !self.parts.ends.is_empty(),
+                ERROR => false,
+                _ => !name_of(self.grammar(), symbol).starts_with(b"$"),
+            };
+            if is_named && tag.is_some() == is_tagged && !self.has_own(deed, symbol) {
+                return true;
+            }
+        }
+        false
+    }
+
+    /// Whether a symbol has code of its own, or by its tag.
+    fn has_own(self, deed: Deed, symbol: Sym) -> bool {
+        for care in &self.parts.cares {
+            let is_own = match care.whose {
+                Whose::Symbol(own) => own == symbol,
+                Whose::Tag(tag) => self.parts.tag_of(symbol) == Some(tag),
+                Whose::Tagged | Whose::Untagged => false,
+            };
+            if is_own && care.deed == deed {
                 return true;
             }
         }

@@ -20,7 +20,7 @@ const OLD: [(&str, &str); 3] = [
 ];
 
 /// Directives that have a dash where an older bison had a line below.
-const DASHED: &str = "expect-rr token-table no-lines default-prec no-default-prec";
+const DASHED: &str = "%expect-rr %token-table %no-lines %default-prec %no-default-prec";
 
 /// Variables that have another name now, with the directive before that.
 const OLD_VARIABLES: [(&str, &str); 6] = [
@@ -101,19 +101,26 @@ fn better_word<'a>(seen: Seen<'a>, lexemes: &[Lexeme]) -> Option<(&'a [u8], Bett
         };
         return Some((between(seen, word, string), better));
     }
-    if let (true, Some(behind)) = (name.contains(&b'_'), listed(DASHED, name)) {
-        return Some((text, dashed(behind)));
+    if let (true, Some(dashed)) = (name.contains(&b'_'), listed(DASHED, text)) {
+        return Some((text, plain(dashed)));
     }
     let equals = rest.first().filter(|it| it.kind == Form::Equals)?;
-    let behind = listed("file-prefix output", name)?;
-    Some((between(seen, word, equals), dashed(behind)))
+    let word_now = listed("%file-prefix %output", text)?;
+    Some((between(seen, word, equals), plain(word_now)))
 }
 
-/// A directive in place of another one.
-fn dashed<'a>(behind: &'static str) -> Better<'a> {
-    Better {
-        behind,
-        ..plain("%")
+/// A directive as bison names it where it isn't one of POSIX: with dashes, and with an equals sign
+/// that belongs to it.
+fn shown<'a>(seen: Seen<'a>, lexemes: &[Lexeme], text: &'a [u8]) -> &'a [u8] {
+    if let Some(dashed) = listed(DASHED, text) {
+        return dashed.as_bytes();
+    }
+    match lexemes {
+        [word, equals, ..] if equals.kind == Form::Equals && !is_word(text, "%output") => {
+            between(seen, word, equals)
+        }
+        _ if is_word(text, "%fixed-output-files") => b"%output",
+        _ => text,
     }
 }
 
@@ -128,7 +135,8 @@ pub fn find_in_word<'a>(
     };
     let (at, text) = (word.span.from, seen.text(word));
     if !is_listed(POSIX, text.get(1..).unwrap_or(b"")) {
-        found.push(warning(Kind::Yacc, at, What::NoDirective(text)))?;
+        let word = shown(seen, lexemes, text);
+        found.push(warning(Kind::Yacc, at, What::NoDirective(word)))?;
     }
     if let Some((old, better)) = better_word(seen, lexemes) {
         found.push(warning(Kind::Deprecated, at, What::Old(old, better)))?;

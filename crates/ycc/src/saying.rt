@@ -120,7 +120,12 @@ fn put_symbol(out: &mut Output, what: What<'_>) {
             put_count(out, count, words, " useless in grammar");
         }
         What::Nonterminal(name) => {
-            out.put_pieces(&[b"nonterminal useless in grammar: ", name]);
+            out.put("nonterminal useless in grammar: ");
+            // that of an action within a body is called as bison calls it
+            match name.strip_prefix(b"$$") {
+                Some(number) => out.put_pieces(&[b"$@", number]),
+                None => out.put_bytes(name),
+            }
         }
         what => put_level(out, what),
     }

@@ -4,6 +4,7 @@ use crate::bodies::{Body, Cut, Entry};
 use crate::finding::{Finding, Seen, What, warning};
 use crate::kinds::Kind;
 use yexplain::reads::{Made, set};
+use ylalr::ERROR;
 use yparts::parts::{Deed, Whose as Meant};
 use yskeleton::{Dialect, Piece, Whose, piece_at};
 
@@ -65,18 +66,18 @@ fn uses_of<'a>(seen: Seen<'a>, body: Body<'a>, cut: &Cut<'a>) -> Made<Uses> {
     Ok(uses)
 }
 
-/// Whether a value has code that is run where it is thrown away. An action within a body has one
-/// where it sets it.
-fn is_destroyed(seen: Seen<'_>, entry: Entry<'_>, sets: bool) -> bool {
+/// Whether a value has code that is run where it is thrown away, and is one: that of an action
+/// within a body is where it is set or used. Code for all symbols isn't for that of `error`.
+fn is_destroyed(seen: Seen<'_>, entry: Entry<'_>, is_value: bool) -> bool {
+    let is_error = entry.symbol == Some(ERROR);
     for care in &seen.parts.cares {
         let is_meant = match care.whose {
             Meant::Symbol(symbol) => entry.symbol == Some(symbol),
             Meant::Tag(tag) => entry.tag == Some(tag),
-            Meant::Tagged => entry.tag.is_some(),
-            Meant::Untagged => entry.tag.is_none(),
+            Meant::Tagged => entry.tag.is_some() && !is_error,
+            Meant::Untagged => entry.tag.is_none() && !is_error,
         };
-        let has_value = entry.symbol.is_some() || entry.tag.is_some() || sets;
-        if care.deed == Deed::Destroy && is_meant && has_value {
+        if care.deed == Deed::Destroy && is_meant && is_value {
             return true;
         }
     }
@@ -106,7 +107,7 @@ fn find_values<'a>(
         let is_used = uses.used.get(place) == Some(&true);
         let sets = uses.sets.get(place) == Some(&true);
         let is_inner = !entry.action.is_empty();
-        let is_kept = is_destroyed(seen, *entry, sets);
+        let is_kept = is_destroyed(seen, *entry, !is_inner || sets || is_used);
         let kind = if is_kept {
             Kind::Other
         } else {
