@@ -143,7 +143,7 @@ def told_steps(text, known):
 def ran(words, what, given=b""):
     """What a program writes, which has to end well and in silence."""
     it = running.ran(words, None, given)
-    if it.returncode or it.stderr.replace(b"conflicts: ", b"", 1)[:1].strip(b"0123456789"):
+    if it.returncode or it.stderr:
         raise Differs(f"{what} ended with {it.returncode}\n{it.stderr.decode(errors='replace')}")
     return it.stdout
 
@@ -153,7 +153,7 @@ def built(folder, grammar, ycc):
     file, parser, program = (f"{folder}/{it}" for it in ("grammar.y", "parser.c", "parser"))
     Path(file).write_bytes(HEAD + bare(grammar) + TAIL)
     order = ["--bison"] if zlib.crc32(grammar) % 2 else []
-    ran([ycc, *order, "-o", parser, file], "ycc")
+    ran([ycc, *order, "-Wnone", "-o", parser, file], "ycc")
     ran([compiler(), *WAY, *CHECKED, "-o", program, parser], "the compiler")
     return program
 

@@ -10,6 +10,11 @@ warnings and the sanitizers; one warning fails the case. With `--peer-twice` the
 ycc's place, bison without default reductions where `case` hasn't `--bison-lists`: so it shows that
 a case depends on nothing that ycc does otherwise by design.
 
+Each file of checks/data/features/told begins with a comment `PEER tells: WORDS`: with these words for
+both, the peer and ycc have to end with the same status and say the same warnings and errors in the
+same places, but for what bison says of changes that it would make to a file. Of conflicts that a file
+doesn't expect bison says no place; of byacc's the line on conflicts counts.
+
 Each file of checks/data/features/refused has to be refused with status 1, a message that names the
 file and the line below its comment `refused below: WORDS`, and has these words; no file may be
 written.
@@ -60,6 +65,11 @@ KEYS |= {"input", "called", "theirs"}
 REFUSED = re.compile(r"refused below: (.*?) *\*/")
 # What `-v` tells of ycc.
 TOLD = re.compile(r"^ycc: .*: order and names of \w+\n", re.M)
+TELLS = re.compile(r"/\* (\w+) tells: *(.*?) *\*/")
+SAID = re.compile(r"^\S+?\.y:(?:(\d+)[.:](\d+)[-.\d]*:)? (error|warning): (.*)$", re.M)
+COUNTED = re.compile(r"^\w+: (\d+ \w+/reduce conflict.*)$", re.M)
+FIXES = "fix-its can be applied"
+PLAIN = {"LC_ALL": "C"}
 REPORT = ["parser.output"]
 ASKED_TOO = "the peer refuses it too"
 WARNING = re.compile(r"^([^\s:]+):\d+:\d+: warning: ", re.M)
@@ -294,6 +304,36 @@ def compare(case, ycc, kept):
             compare_results(theirs, ours)
 
 
+def sentences(said):
+    """The warnings and errors that are said, each with its line, column and kind."""
+    found = []
+    for line, column, kind, text in SAID.findall(said):
+        place = (0, 0) if "expected" in text else (int(line or 0), int(column or 0))
+        if FIXES not in text:
+            found.append((*place, kind, " ".join(text.split())))
+    return sorted(found)
+
+
+def told_by(maker, words, file, is_bison):
+    """What a program says of a file, and its status."""
+    with tempfile.TemporaryDirectory() as room:
+        shutil.copy(file, room)
+        made = run([*maker, *words, "-o", "parser.c", file.name], room, env=PLAIN)
+    said = text_of(made.stderr)
+    return (sentences(said) if is_bison else COUNTED.findall(said)), made.returncode
+
+
+def compare_told(file, ycc, _kept):
+    """Compares what is said of a file."""
+    peer, words = TELLS.search(file.read_text()).groups()
+    is_bison = peer == "bison"
+    own = [ycc, *(["--bison"] if is_bison else [])] if ycc else [peer]
+    wanted = told_by([peer], words.split(), file, is_bison)
+    made = told_by(own, words.split(), file, is_bison)
+    if wanted != made:
+        raise Differs(f"wanted {wanted}\nmade {made}")
+
+
 def place_of_refusal(text):
     """The line below the comment, and the words that are wanted."""
     found = REFUSED.search(text)
@@ -352,6 +392,8 @@ def jobs_of(ycc, given):
     jobs = [(compare, it, ycc, given.keep) for it in cases()]
     refused = sorted((FEATURES / "refused").iterdir())
     jobs += [(refuse, it, ycc, given.keep) for it in refused]
+    told_of = sorted((FEATURES / "told").iterdir())
+    jobs += [(compare_told, it, ycc, given.keep) for it in told_of]
     return [it for it in jobs if given.only in it[1].name]
 
 

@@ -32,7 +32,7 @@ class Parsers(Planted):
         self.each_caught(self.fault, MADE, *changed(MADE, *pairs), "")
         self.assertTrue(self.fault(MADE, status=1))
         self.assertTrue(self.fault(MADE, message="runtime error: index 9 out of bounds"))
-        self.assertFalse(self.fault(MADE, message="conflicts: 1 shift/reduce"))
+        self.assertFalse(self.fault(MADE))
 
     def test_given(self):
         """The parser gets the kinds of the tokens."""

@@ -224,6 +224,20 @@ class Features(Planted):
 
         self.each_caught(look, text, *changed(text, *pairs))
 
+    def test_told_as_peer(self):
+        """Another place, other words, another kind, one sentence too few, another status."""
+        file = self.room / "some.y"
+        file.write_text("/* bison tells: -Wall */\n%%\ns : ;\n")
+        said = "some.y:3.5: warning: empty rule [-Wempty-rule]\nsome.y: error: other\n"
+        ours = said.replace("3.5", "3:5") + "  a note\n"
+        texts = ours, ours.replace("3:5", "3:6"), ours.replace("empty", "full", 1)
+        texts += ours.replace("warning", "error"), ours.replace("some.y: error: other\n", "")
+        runs = [(text, 1, text != ours) for text in texts] + [(ours, 0, True)]
+        for text, status, wrong in runs:
+            both = ended(b"", said.encode(), 1), ended(b"", text.encode(), status)
+            with mock.patch.object(features, "run", side_effect=both):
+                self.assertEqual(bool(self.look(features.compare_told, file, "ycc", None)), wrong)
+
     def test_warnings(self):
         """A compiler's warning fails a case of ycc."""
         (self.room / "grammar.y").write_text("")

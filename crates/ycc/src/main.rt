@@ -1,27 +1,49 @@
-//! `ycc [-dltvyLP] [-b prefix] [-o file] [-p prefix] [-H file] [-D name=value] grammar`: writes a
-//! parser in C of a grammar file, a drop-in for `yacc` and `bison` in a build.
+//! `ycc [-dlLtvyP] [-b prefix] [-o file] [-p prefix] [-H file] [-D name=value] [-W kinds] grammar`
+//! writes a parser in C of a grammar file, a drop-in for `yacc` and `bison` in a build.
 //!
-//! `words` has the command line, `persona` whether `bison` is called, `names` the names of the files
-//! that are written; `reading` reads
-//! the grammar file, `messages` one of messages for errors, `making` makes the texts and writes
-//! them, and `ending` says how a run ends.
+//! `kinds` has the kinds of warnings, `words` what the command line asks for, `options` the
+//! options, `reader` reads words by them, `persona` says who is called, and `help` lists options;
+//! `names` has the names of the files that are written; `reading` reads the grammar file,
+//! `messages` one of messages for errors, `making` makes the texts and writes them, and `ending`
+//! says how a run ends.
+//!
+//! `finding` has what deserves a warning, as values; `bodies` cuts the bodies of a file;
+//! `deprecated` and `declared` seek in declarations, `values` and `expects` in bodies, `walk`,
+//! `useless` and `levels` in the tables; `saying` has the words, and `warnings` tells what is to be
+//! told.
 #![tactic(auto)]
 
+mod bodies;
+mod declared;
+mod deprecated;
 mod ending;
+mod expects;
+mod finding;
+mod help;
+mod kinds;
+mod levels;
 mod making;
 mod messages;
 mod names;
+mod options;
 mod persona;
+mod reader;
 mod reading;
+mod saying;
+mod useless;
+mod values;
+mod walk;
+mod warnings;
 mod words;
 
 use crate::ending::{Ending, File, outside, say, tell};
+use crate::help::help_text;
 use crate::making::write_files;
-use crate::persona::is_bison;
+use crate::reader::{Wrong, asked_by};
 use crate::reading::read;
-use crate::words::{Given, USAGE, VERSION, command, given_in, is_idle, is_other, variables_in};
-use clap::error::ErrorKind;
+use crate::words::{Asked, Given, USAGE};
 use std::io::Write;
+use std::mem;
 use std::process::ExitCode;
 use yexplain::text::Escaped;
 use yfaults::opening::grammar_bytes;
@@ -29,17 +51,17 @@ use yfiles::arguments::{Arguments, arguments_of};
 use yfiles::output::Output;
 use yparts::options::{Options, Purity};
 
-/// Sets the variables that words have, each with a zero after it. Braces or quotes around a value
-/// are left out.
+/// Sets the variables that words have, each with a zero after it and a letter before it. Braces or
+/// quotes around a value are left out.
 fn define<'a>(
     rt: &HostRuntime,
     variables: &'a [u8],
     options: &mut Options<'a>,
 ) -> Result<(), Ending> {
     for variable in variables.split(|byte| *byte == 0) {
-        if variable.is_empty() {
+        let Some((by, variable)) = variable.split_first() else {
             continue;
-        }
+        };
         let equals = variable.iter().position(|byte| *byte == b'=');
         let end = equals.unwrap_or(variable.len());
         let name = variable.get(..end).unwrap_or(variable);
@@ -52,8 +74,7 @@ fn define<'a>(
         options.is_bison = true;
         if let Err(refusal) = options.define(name, value, is_code) {
             let mut out = Output::new(rt.alloc());
-            out.put("ycc: -D ");
-            out.put_bytes(variable);
+            out.put_pieces(&[b"ycc: -", &[*by], b" ", variable]);
             out.put(": ");
             out.line(refusal.text());
             return Err(say(rt, out, Ending::Refused));
@@ -69,13 +90,9 @@ fn generate(rt: &HostRuntime, given: Given<'_>, file: &File) -> Result<(), Endin
     if given.pure {
         options.purity = Purity::Yes;
     }
+    options.has_names = options.has_names || given.names;
     define(rt, file.variables.as_slice(), options)?;
-    write_files(rt, given, file, &found)?;
-    if found.is_told {
-        Ok(())
-    } else {
-        Err(Ending::Untold)
-    }
+    write_files(rt, given, file, &found)
 }
 
 /// Does what words ask for.
@@ -95,35 +112,24 @@ fn obey(rt: &HostRuntime, given: Given<'_>, variables: Vec<u8>) -> Result<(), En
     generate(rt, given, &file)
 }
 
-/// Why words are refused. Help that they ask for is written.
-fn refused_for(rt: &HostRuntime, error: &clap::Error) -> Ending {
-    match error.kind() {
-        ErrorKind::DisplayHelp | ErrorKind::DisplayVersion => {
-            let mut out = Output::new(rt.alloc());
-            out.show(error);
-            match out.finish(&mut rt.stdout()) {
-                Ok(()) => Ending::Helped,
-                Err(error) => Ending::from(error),
-            }
-        }
-        ErrorKind::OutOfMemory => Ending::Memory,
-        _ => Ending::Words,
+/// Writes a text in place of files.
+fn answer(rt: &HostRuntime, text: &[u8]) -> Ending {
+    match rt.stdout().write_all(text) {
+        Ok(()) => Ending::Helped,
+        Err(_) => Ending::Outside,
     }
 }
 
-/// Answers a word that asks for a version or for what `ycc` doesn't have.
-fn answer(rt: &HostRuntime, word: &str) -> Result<(), Ending> {
-    if word == "--version" || word == "-V" {
-        return match rt.stdout().write_all(VERSION) {
-            Ok(()) => Err(Ending::Helped),
-            Err(_) => Err(Ending::Outside),
-        };
+/// Says why words are refused.
+fn refuse(rt: &HostRuntime, wrong: Wrong<'_>) -> Ending {
+    match wrong {
+        Wrong::NoGrammar => Ending::Words,
+        Wrong::Word(dashes, name, why) => {
+            tell(rt, &["ycc: ", dashes, name, ": ", why]);
+            Ending::Words
+        }
+        Wrong::Memory => Ending::Memory,
     }
-    if is_other(word) {
-        tell(rt, &["ycc: no ", word, ": ycc has no such output"]);
-        return Err(Ending::Words);
-    }
-    Ok(())
 }
 
 /// The arguments; where one is no text, that is said.
@@ -142,25 +148,17 @@ fn arguments_in(rt: &HostRuntime) -> Result<Vec<String>, Ending> {
 
 /// Reads the words and does what they ask for.
 fn run(rt: &HostRuntime) -> Result<(), Ending> {
-    let given = arguments_in(rt)?;
-    let mut words = Vec::with_capacity(rt.alloc(), given.len())?;
-    for word in &given {
-        answer(rt, word)?;
-        if !is_idle(word) {
-            words.push(word.as_str())?;
+    let words = arguments_in(rt)?;
+    match asked_by(rt.alloc(), words.as_slice()) {
+        Ok(Asked::Files(mut wanted)) => {
+            let none = Vec::new(rt.alloc());
+            let variables = mem::replace(&mut wanted.variables, none);
+            obey(rt, wanted.given, variables)
         }
+        Ok(Asked::Help) => Err(answer(rt, &help_text(rt.alloc()).into_bytes()?)),
+        Ok(Asked::Text(text)) => Err(answer(rt, text)),
+        Err(wrong) => Err(refuse(rt, wrong)),
     }
-    let matches = match command(rt.alloc())?.try_get_matches_from(words.as_slice()) {
-        Ok(matches) => matches,
-        Err(error) => return Err(refused_for(rt, &error)),
-    };
-    let variables = variables_in(rt.alloc(), &matches)?;
-    let Some(mut asked) = given_in(&matches) else {
-        return Err(Ending::Words);
-    };
-    let call = given.first().map_or("", |call| call.as_str());
-    asked.bison = asked.bison || is_bison(call);
-    obey(rt, asked, variables)
 }
 
 /// Says how a run ended where nothing was said yet, and gives the exit status.

@@ -4,6 +4,7 @@ use crate::ending::{Ending, File, outside, say, tell};
 use crate::messages::speech_of;
 use crate::names::{Names, names_of};
 use crate::reading::Reading;
+use crate::warnings::tell_found;
 use crate::words::Given;
 use std::alloc::Global;
 use ycode::code_of;
@@ -113,6 +114,27 @@ fn write_all(rt: &HostRuntime, given: Given<'_>, texts: &[Text<'_>]) -> Result<(
     Ok(())
 }
 
+/// Says what is wrong with values that actions name, where something is.
+fn refuse_misuses(rt: &HostRuntime, file: &File, skeleton: &Skeleton<'_>) -> Result<(), Ending> {
+    let mut ending = Ok(());
+    for misused in &skeleton.misuses(rt.alloc())? {
+        ending = Err(file.misused(rt, misused.misuse, misused.at));
+    }
+    ending
+}
+
+/// Says whose order and names a parser has, where a report is wanted, and what isn't done for it.
+fn tell_ways(rt: &HostRuntime, given: Given<'_>, path: &str, lac: bool, is_bison: bool) {
+    if given.verbose {
+        let whose = if is_bison { "bison" } else { "byacc" };
+        tell(rt, &["ycc: ", path, ": order and names of ", whose]);
+    }
+    if lac {
+        let why = "parse.lac is not done: lists can lack tokens that could come";
+        tell(rt, &[path, ": warning: ", why]);
+    }
+}
+
 /// Makes all texts, and then writes their files.
 pub fn write_files(
     rt: &HostRuntime,
@@ -125,14 +147,7 @@ pub fn write_files(
     let wishes = wishes_of(given, &parts.options);
     let is_bison = wishes.mode == Mode::Bison;
     let names = names_of(alloc, given, &parts.options, is_bison)?;
-    if given.verbose {
-        let whose = if is_bison { "bison" } else { "byacc" };
-        tell(rt, &["ycc: ", path, ": order and names of ", whose]);
-    }
-    if parts.options.lac {
-        let why = "parse.lac is not done: lists can lack tokens that could come";
-        tell(rt, &[path, ": warning: ", why]);
-    }
+    tell_ways(rt, given, path, parts.options.lac, is_bison);
     let style = style_of(alloc, parts, wishes, given.prefix)?;
     let code = code_of(alloc, tables)?;
     let speech = speech_of(rt, given.messages, tables, &style)?;
@@ -148,6 +163,14 @@ pub fn write_files(
         numbering: &numbering,
         speech: speech.as_ref(),
     };
+    refuse_misuses(rt, file, &skeleton)?;
     let texts = texts_of(rt, given, file, tables, skeleton, &names)?;
-    write_all(rt, given, &texts)
+    let is_told = tell_found(rt, given.kinds, file, read, is_bison)?;
+    if !given.dry {
+        write_all(rt, given, &texts)?;
+    }
+    match is_told && read.is_told {
+        true => Ok(()),
+        false => Err(Ending::Untold),
+    }
 }

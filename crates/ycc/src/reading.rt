@@ -1,11 +1,13 @@
 //! A grammar file read: one that `yacc` takes as `yacc` reads it, any other by its import.
 
 use crate::ending::{Ending, File};
+use std::alloc::Global;
 use yexplain::reads::grammar_of;
 use yfaults::opening::{Opened, Trouble as Unopened, add_trouble};
+use yfiles::category::Choice;
 use yfiles::diagnostic::Diagnostics;
-use yfiles::output::Output;
 use yfiles::steady::Steady;
+use yfrontend::compared::Counts;
 use yfrontend::import::{Foreign, import_of, open_import};
 use yfrontend::notes::Source;
 use ygrammar::{Grammar, Mapped, Mark, read_mapped};
@@ -25,6 +27,16 @@ pub struct Reading<'a> {
     pub tables: Tables,
     /// What it says of its parser.
     pub parts: Parts<'a>,
+    /// Its import, where it was read by one.
+    pub imported: Option<Imported>,
+    /// Its shift/reduce conflicts.
+    pub shift_reduce: usize,
+    /// Its reduce/reduce conflicts.
+    pub reduce_reduce: usize,
+    /// The shift/reduce conflicts that it expects.
+    pub expected_shift: Option<Expected>,
+    /// The reduce/reduce conflicts that it expects.
+    pub expected_reduce: Option<Expected>,
     /// Whether all was written that is said of it.
     pub is_told: bool,
 }
@@ -62,17 +74,6 @@ fn map<'a>(rt: &HostRuntime, bytes: &'a [u8]) -> Result<(Grammar, Vec<Mark<'a>>)
     }
 }
 
-/// Says how many conflicts there are, where there are some.
-fn put_conflicts(out: &mut Output, first: u64, second: u64) {
-    if first > 0 || second > 0 {
-        out.put("conflicts: ");
-        out.show(first);
-        out.put(" shift/reduce, ");
-        out.show(second);
-        out.line(" reduce/reduce");
-    }
-}
-
 /// Takes in what words wish of a file as if it said so, and tells whether it is one of bison.
 fn look_at(parts: &mut Parts<'_>, file: &File) {
     let options = &mut parts.options;
@@ -99,39 +100,40 @@ fn read_native<'a>(
         }
     };
     let tables = resolve(alloc, automaton).map_err(|_| Ending::Memory)?;
-    let counts = tables.conflicts();
-    let mut errors = Steady::new(rt.stderr(), true);
-    let mut out = Output::new(alloc);
-    put_conflicts(&mut out, counts.shift_reduce, counts.reduce_reduce);
-    out.finish(&mut errors)?;
+    let counts = Counts::of(&tables);
     Ok(Reading {
         tables,
         parts,
-        is_told: errors.finish().is_ok(),
+        imported: None,
+        shift_reduce: counts.shift_reduce,
+        reduce_reduce: counts.reduce_reduce,
+        expected_shift: None,
+        expected_reduce: None,
+        is_told: true,
     })
 }
 
-/// Says how many conflicts a foreign file has, unless it expects some. Where it is refused for
-/// others, that was said, but of reduce/reduce conflicts of bison.
-fn put_counts(out: &mut Output, source: Source<'_>, foreign: &Foreign, is_bison: bool) {
-    let (imported, counts) = (&foreign.imported, foreign.counts);
-    let reduces = counts.reduce_reduce;
-    let is_counted = is_bison || imported.reduce_reduce.is_none();
-    match imported.shift_reduce {
-        Some(Expected { span, number }) if is_bison && reduces > 0 => {
-            out.put(source.path);
-            out.put(":");
-            out.show(source.spot(span));
-            out.put(": error: %expect ");
-            out.number(number);
-            out.put(": unexpected reduce/reduce conflicts: ");
-            out.number(reduces);
-            out.line("");
-        }
-        None if is_counted && !foreign.surprises(is_bison) => {
-            put_conflicts(out, counts.shift_reduce as u64, reduces as u64);
-        }
-        _ => {}
+/// All but what is said of conflicts, and in a file of bison of strings that byacc reads otherwise.
+fn only_own(alloc: Global, told: Diagnostics, is_bison: bool) -> Result<Diagnostics, Ending> {
+    let last = if is_bison {
+        "no-dangling-alias"
+    } else {
+        "no-conflicts-sr"
+    };
+    match Choice::of(&["no-conflicts-sr", "no-conflicts-rr", last], &[]) {
+        Some(choice) => Ok(told.only(alloc, choice.shown)?),
+        None => Ok(told),
+    }
+}
+
+/// Says why a file is refused for what it says of its parser.
+fn unmade(rt: &HostRuntime, file: &File, trouble: Unmade) -> Ending {
+    match trouble {
+        Unmade::Memory => Ending::Memory,
+        Unmade::Refused(refusal, at) => match file.refuse(rt, at, refusal.text()) {
+            Ending::Refused if refusal == Refusal::Later => Ending::Later,
+            ending => ending,
+        },
     }
 }
 
@@ -148,29 +150,33 @@ fn read_imported<'a>(
         Ok(foreign) => foreign,
         Err(status) => return Err(refused(rt, &told, status)),
     };
-    let mut errors = Steady::new(rt.stderr(), true);
-    told.put(&mut errors, "ycc")?;
     let (grammar, imported) = (grammar_of(&foreign.opened.tables), &foreign.imported);
-    let mut parts = match foreign::parts_of(alloc, &file.bytes, grammar, imported, file.is_bison) {
-        Ok(parts) => parts,
-        Err(Unmade::Memory) => return Err(Ending::Memory),
-        Err(Unmade::Refused(refusal, at)) => match file.refuse(rt, at, refusal.text()) {
-            Ending::Refused if refusal == Refusal::Later => return Err(Ending::Later),
-            ending => return Err(ending),
-        },
+    let mut parts = foreign::parts_of(alloc, &file.bytes, grammar, imported, file.is_bison);
+    let is_bison = match &mut parts {
+        Ok(parts) => {
+            look_at(parts, file);
+            parts.options.is_bison
+        }
+        Err(_) => true,
     };
-    look_at(&mut parts, file);
-    let mut out = Output::new(alloc);
-    put_counts(&mut out, source, &foreign, parts.options.is_bison);
-    out.finish(&mut errors)?;
-    if foreign.surprises(parts.options.is_bison) {
-        return Err(Ending::Refused);
-    }
-    let Foreign { opened, .. } = foreign;
+    let mut errors = Steady::new(rt.stderr(), true);
+    only_own(alloc, told, is_bison)?.put(&mut errors, "ycc")?;
+    let parts = parts.map_err(|trouble| unmade(rt, file, trouble))?;
+    let Foreign {
+        opened,
+        imported,
+        counts,
+    } = foreign;
     let Opened { tables, .. } = opened;
+    let (expected_shift, expected_reduce) = (imported.shift_reduce, imported.reduce_reduce);
     Ok(Reading {
         tables,
         parts,
+        imported: Some(imported),
+        shift_reduce: counts.shift_reduce,
+        reduce_reduce: counts.reduce_reduce,
+        expected_shift,
+        expected_reduce,
         is_told: errors.finish().is_ok(),
     })
 }

@@ -1,10 +1,11 @@
 //! What an action sees: the values and places of its body, and the names of these.
 
-use crate::references::{Reference, Whose};
+use crate::references::{Piece, Reference, Whose, piece_at};
 use crate::skeleton::Skeleton;
 use crate::style::Style;
+use std::alloc::Global;
 use yexplain::lines::is_inner;
-use yexplain::reads::{body_of, left_of, name_of};
+use yexplain::reads::{Made, body_of, left_of, name_of};
 use yparts::options::Values;
 use yparts::parts::{Action, Named, Parts};
 use ysymbols::{Grammar, Sym};
@@ -22,6 +23,15 @@ pub enum Misuse {
     Unknown,
     /// Several symbols have it.
     Ambiguous,
+}
+
+/// A misuse, and how many bytes of the file stand before it.
+#[derive(Clone, Copy, Debug, Drop)]
+pub struct Misused {
+    /// The misuse.
+    pub misuse: Misuse,
+    /// The place.
+    pub at: usize,
 }
 
 /// A member of a value.
@@ -93,6 +103,39 @@ impl<'a> Skeleton<'a> {
             value: "yyval",
             location: "yyloc",
         }
+    }
+
+    /// Adds what is misused in an action.
+    fn add_misuses(&self, action: Action<'a>, found: &mut Vec<Misused>) -> Made<()> {
+        let scene = self.action_scene(action);
+        let (dialect, text) = (self.style.dialect(), action.piece.text);
+        let mut rest = text;
+        for _ in text {
+            let Some((piece, _, after)) = piece_at(rest, dialect) else {
+                break;
+            };
+            let misuse = match piece {
+                Piece::Text => None,
+                Piece::Value(value) => scene.locate(value).err(),
+                Piece::Place(whose) => scene.place(whose).err(),
+            };
+            if let Some(misuse) = misuse {
+                let before = text.len().saturating_sub(rest.len());
+                let at = action.piece.at.saturating_add(before);
+                found.push(Misused { misuse, at })?;
+            }
+            rest = after;
+        }
+        Ok(())
+    }
+
+    /// What is misused in actions, in the order of the file.
+    pub fn misuses(&self, alloc: Global) -> Made<Vec<Misused>> {
+        let mut found = Vec::new(alloc);
+        for action in &self.parts.actions {
+            self.add_misuses(*action, &mut found)?;
+        }
+        Ok(found)
     }
 
     /// What code sees that stands in no rule: a value, of this symbol or of none, and a place, as

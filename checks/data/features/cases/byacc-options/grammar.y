@@ -1,10 +1,10 @@
 %{
 #include "plain.h"
-int more (void);
 %}
 %token NUMBER
 %%
-all : NUMBER          { printf ("%d\n", $1 + more () + calc_debug); }
+all : NUMBER        { printf ("%d\n", $1); }
+    | all '+' NUMBER { printf ("and %d\n", $3); }
     ;
 %%
 #include "plain_tail.h"

@@ -1,0 +1,7 @@
+/* bison tells: -Wno-other */
+%code { int x; }
+%token IF ELSE X
+%%
+s : IF s | IF s ELSE s | X | a | b ;
+a : X ;
+b : X ;

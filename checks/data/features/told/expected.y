@@ -1,0 +1,8 @@
+/* bison tells: -Wno-other */
+%code { int x; }
+%expect 3
+%token IF ELSE X
+%%
+s : IF s | IF s ELSE s | X | a | b ;
+a : X ;
+b : X ;

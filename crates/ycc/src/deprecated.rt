@@ -1,0 +1,207 @@
+//! Words of declarations that POSIX hasn't, and those that have another word now.
+
+use crate::finding::{Better, Finding, Seen, What, warning};
+use crate::kinds::Kind;
+use yexplain::reads::Made;
+use yforeign::directive::is_word;
+use yforeign::lexeme::{Kind as Form, Lexeme};
+use yforeign::survey::{inside, is_text};
+use ysymbols::names::{SymbolTable, intern, is_among};
+
+/// The directives of POSIX, and those that bison takes for such, with a space between two.
+const POSIX: &str = "token left right nonassoc type start union prec debug locations lex-param \
+    parse-param param";
+
+/// Directives that have another word now.
+const OLD: [(&str, &str); 3] = [
+    ("pure-parser", "%define api.pure"),
+    ("error-verbose", "%define parse.error verbose"),
+    ("fixed-output-files", "%output \"y.tab.c\""),
+];
+
+/// Directives that have a dash where an older bison had a line below.
+const DASHED: &str = "%expect-rr %token-table %no-lines %default-prec %no-default-prec";
+
+/// Variables that have another name now, with the directive before that.
+const OLD_VARIABLES: [(&str, &str); 6] = [
+    ("api.push_pull", "%define api.push-pull"),
+    ("lr.default-reductions", "%define lr.default-reduction"),
+    (
+        "lr.keep_unreachable_states",
+        "%define lr.keep-unreachable-state",
+    ),
+    (
+        "lr.keep-unreachable-states",
+        "%define lr.keep-unreachable-state",
+    ),
+    ("location_type", "%define api.location.type"),
+    ("namespace", "%define api.namespace"),
+];
+
+/// Variables whose values are words.
+const WANT_WORDS: &str = "api.pure api.push-pull api.value.type lr.default-reduction \
+    lr.keep-unreachable-state lr.type parse.error parse.lac";
+
+/// Variables whose values stand in braces.
+const WANT_BRACES: &str = "api.location.type api.prefix api.token.prefix";
+
+/// The word of a list that a text is.
+fn listed(list: &'static str, text: &[u8]) -> Option<&'static str> {
+    for name in list.split(' ') {
+        if is_word(text, name) {
+            return Some(name);
+        }
+    }
+    None
+}
+
+/// Whether a text is a word of a list, to the letter.
+fn is_listed(list: &str, text: &[u8]) -> bool {
+    for name in list.split(' ') {
+        if name.as_bytes() == text {
+            return true;
+        }
+    }
+    false
+}
+
+/// A word in place of another one.
+fn plain<'a>(word: &'static str) -> Better<'a> {
+    Better {
+        word,
+        before: "",
+        part: b"",
+        behind: "",
+    }
+}
+
+/// The bytes of a file from one lexeme to another.
+fn between<'a>(seen: Seen<'a>, first: &Lexeme, last: &Lexeme) -> &'a [u8] {
+    let text = seen.source.get(first.span.from..last.span.to);
+    text.unwrap_or(b"")
+}
+
+/// The better word for a directive with what stands behind it, and the text that it replaces.
+fn better_word<'a>(seen: Seen<'a>, lexemes: &[Lexeme]) -> Option<(&'a [u8], Better<'a>)> {
+    let (word, rest) = lexemes.split_first()?;
+    let text = seen.text(word);
+    let name = text.get(1..)?;
+    for (old, new) in &OLD {
+        if is_word(name, old) {
+            return Some((text, plain(new)));
+        }
+    }
+    let string = rest.iter().find(|it| is_text(it.kind));
+    if let (true, Some(string)) = (is_word(name, "name-prefix"), string) {
+        let better = Better {
+            word: "%define api.prefix",
+            before: " {",
+            part: inside(seen.source, string),
+            behind: "}",
+        };
+        return Some((between(seen, word, string), better));
+    }
+    if let (true, Some(dashed)) = (name.contains(&b'_'), listed(DASHED, text)) {
+        return Some((text, plain(dashed)));
+    }
+    let equals = rest.first().filter(|it| it.kind == Form::Equals)?;
+    let word_now = listed("%file-prefix %output", text)?;
+    Some((between(seen, word, equals), plain(word_now)))
+}
+
+/// A directive as bison names it where it isn't one of POSIX: with dashes, and with an equals sign
+/// that belongs to it.
+fn shown<'a>(seen: Seen<'a>, lexemes: &[Lexeme], text: &'a [u8]) -> &'a [u8] {
+    if let Some(dashed) = listed(DASHED, text) {
+        return dashed.as_bytes();
+    }
+    match lexemes {
+        [word, equals, ..] if equals.kind == Form::Equals && !is_word(text, "%output") => {
+            between(seen, word, equals)
+        }
+        _ if is_word(text, "%fixed-output-files") => b"%output",
+        _ => text,
+    }
+}
+
+/// Finds what is to be said of the word of a declaration, or of one in a body.
+pub fn find_in_word<'a>(
+    seen: Seen<'a>,
+    lexemes: &[Lexeme],
+    found: &mut Vec<Finding<'a>>,
+) -> Made<()> {
+    let Some(word) = lexemes.first() else {
+        return Ok(());
+    };
+    let (at, text) = (word.span.from, seen.text(word));
+    if !is_listed(POSIX, text.get(1..).unwrap_or(b"")) {
+        let word = shown(seen, lexemes, text);
+        found.push(warning(Kind::Yacc, at, What::NoDirective(word)))?;
+    }
+    if let Some((old, better)) = better_word(seen, lexemes) {
+        found.push(warning(Kind::Deprecated, at, What::Old(old, better)))?;
+    }
+    Ok(())
+}
+
+/// The name that a variable has now.
+fn newer(name: &[u8]) -> Option<&'static str> {
+    for (old, new) in &OLD_VARIABLES {
+        if old.as_bytes() == name {
+            return Some(new);
+        }
+    }
+    None
+}
+
+/// What is to be said of a variable that has another name now, with this directive.
+fn old_define<'a>(seen: Seen<'a>, lexemes: &[Lexeme], now: &'static str) -> Finding<'a> {
+    let (mut better, mut at) = (plain(now), 0);
+    let mut old: &'a [u8] = b"";
+    if let [word, name, rest @ ..] = lexemes {
+        at = word.span.from;
+        old = between(seen, word, rest.first().unwrap_or(name));
+        if let Some(value) = rest.first() {
+            better.before = " ";
+            better.part = match is_text(value.kind) {
+                true => inside(seen.source, value),
+                false => seen.text(value),
+            };
+        }
+    }
+    warning(Kind::Deprecated, at, What::Old(old, better))
+}
+
+/// Finds what is to be said of a variable that is set; those that were set before are among these
+/// names.
+pub fn find_in_define<'a>(
+    seen: Seen<'a>,
+    lexemes: &[Lexeme],
+    defined: &mut SymbolTable,
+    found: &mut Vec<Finding<'a>>,
+) -> Made<()> {
+    let [word, name, rest @ ..] = lexemes else {
+        return Ok(());
+    };
+    let at = word.span.from;
+    let own = seen.text(name);
+    let new = newer(own);
+    if let Some(word_now) = new {
+        found.push(old_define(seen, lexemes, word_now))?;
+    }
+    let known = match new {
+        Some(word_now) => word_now.as_bytes().get(8..).unwrap_or(own),
+        None => own,
+    };
+    if rest.first().is_some_and(|value| is_text(value.kind)) {
+        if is_listed(WANT_WORDS, known) {
+            found.push(warning(Kind::Deprecated, at, What::WantsWord(known)))?;
+        } else if is_listed(WANT_BRACES, known) {
+            found.push(warning(Kind::Deprecated, at, What::WantsBraces(known)))?;
+        }
+    }
+    if is_among(defined, known) {
+        found.push(warning(Kind::Other, at, What::Redefined(known)))?;
+    }
+    intern(seen.alloc, defined, known)
+}

@@ -1,0 +1,81 @@
+//! The list of options, as help has it.
+
+use crate::kinds::LISTED;
+use crate::options::{Ask, Has, Known, OPTIONS, Whose};
+use crate::words::USAGE;
+use std::alloc::Global;
+use yfiles::output::Output;
+
+/// What stands at the head of the list.
+const HEAD: &str = "\
+Writes a parser in C, whose tables are proved, of a grammar file.
+
+Options; what is bison's counts in a call as bison or with --bison, what is byacc's in any other:
+";
+
+/// Writes what an option is called.
+fn put_names(out: &mut Output, (letter, names, _, has, _, _): Known) {
+    let mut between = "";
+    if let Some(letter) = letter {
+        out.put("-");
+        out.show(letter);
+        between = ", ";
+    }
+    for name in names.split(' ') {
+        if !name.is_empty() {
+            out.put(between);
+            out.put("--");
+            out.put(name);
+            between = ", ";
+        }
+    }
+    match has {
+        Has::Nothing => {}
+        Has::Value(shown) if names.is_empty() => {
+            out.put(" ");
+            out.put(shown);
+        }
+        Has::Value(shown) => {
+            out.put("=");
+            out.put(shown);
+        }
+        Has::Perhaps(shown) => {
+            out.put(if names.is_empty() { "[" } else { "[=" });
+            out.put(shown);
+            out.put("]");
+        }
+    }
+}
+
+/// Writes an option, and what it does.
+fn put_option(out: &mut Output, known: Known) {
+    out.put("  ");
+    put_names(out, known);
+    out.put("\n        ");
+    let (_, _, whose, _, ask, help) = known;
+    match whose {
+        Whose::All => {}
+        Whose::Bison => out.put("as bison: "),
+        Whose::Byacc => out.put("as byacc: "),
+    }
+    match ask {
+        Ask::Refused(why) => {
+            out.put("Refused: ");
+            out.line(why);
+        }
+        _ => out.line(help),
+    }
+}
+
+/// The list of options.
+pub fn help_text(alloc: Global) -> Output {
+    let mut out = Output::new(alloc);
+    out.put_bytes(USAGE);
+    out.put(HEAD);
+    for known in OPTIONS {
+        put_option(&mut out, known);
+    }
+    out.put("Kinds of warnings:\n  ");
+    out.put(LISTED);
+    out
+}

@@ -1,0 +1,249 @@
+//! The words of the command line of `ycc`, read by its options.
+
+use crate::options::{Ask, Found, Has, Known, option_named, option_of};
+use crate::persona;
+use crate::words::{Asked, DATA_FOLDER, Given, LOCALE_FOLDER, VERSION, Wanted};
+use std::alloc::{AllocError, Global};
+use std::mem;
+
+/// Why words are refused.
+#[derive(Clone, Copy, Drop)]
+pub enum Wrong<'a> {
+    /// There is no grammar.
+    NoGrammar,
+    /// A word is refused, for this reason: its dashes, and what follows them.
+    Word(&'static str, &'a str, &'static str),
+    /// Memory ran out.
+    Memory,
+}
+
+impl From<AllocError> for Wrong<'_> {
+    fn from(_refused: AllocError) -> Wrong<'static> {
+        Wrong::Memory
+    }
+}
+
+/// An option that waits for the word with its value, as it is called.
+#[derive(Clone, Copy)]
+struct Waiting<'a> {
+    ask: Ask,
+    dashes: &'static str,
+    name: &'a str,
+}
+
+/// Words while they are read.
+struct Reader<'a> {
+    wanted: Wanted<'a>,
+    /// Whether a grammar was met.
+    has_grammar: bool,
+    /// Whether no option comes any more.
+    is_past: bool,
+    waiting: Option<Waiting<'a>>,
+    /// What is asked for in place of files.
+    text: Option<Ask>,
+}
+
+impl Drop for Reader<'_> {
+    fn drop(self) {
+        let Reader {
+            wanted: _,
+            has_grammar: _,
+            is_past: _,
+            waiting: _,
+            text: _,
+        } = self;
+    }
+}
+
+/// Whether a call is one as bison: by its name, or by a word.
+fn is_bison(words: &[String]) -> bool {
+    for (number, word) in words.iter().enumerate() {
+        let word = word.as_str();
+        if word == "--bison" || (number == 0 && persona::is_bison(word)) {
+            return true;
+        }
+        if word == "--" {
+            break;
+        }
+    }
+    false
+}
+
+/// Takes in a wish for files with its value, which may be empty, and says whether it was one.
+fn wish<'a>(given: &mut Given<'a>, ask: Ask, value: &'a str) -> bool {
+    match ask {
+        Ask::Header => {
+            given.define = true;
+            if !value.is_empty() {
+                given.header = Some(value);
+            }
+        }
+        Ask::NoLines => given.no_lines = true,
+        Ask::Trace => given.trace = true,
+        Ask::Report => given.verbose = value != "none",
+        Ask::ReportFile => given.report = Some(value),
+        Ask::Yacc => given.yacc = true,
+        Ask::Pure => given.pure = true,
+        Ask::Locations => given.locations = true,
+        Ask::Bison => given.bison = true,
+        Ask::Lists => given.lists = true,
+        Ask::Names => given.names = true,
+        Ask::FilePrefix => given.files = Some(value),
+        Ask::Output => given.parser = Some(value),
+        Ask::NamePrefix => given.prefix = Some(value),
+        Ask::Messages => given.messages = Some(value),
+        Ask::Table => given.table = Some(value),
+        _ => return false,
+    }
+    true
+}
+
+impl<'a> Reader<'a> {
+    /// Does what an option asks for, with its value, which may be empty.
+    fn obey(&mut self, option: Waiting<'a>, value: &'a str) -> Result<(), Wrong<'a>> {
+        if wish(&mut self.wanted.given, option.ask, value) {
+            return Ok(());
+        }
+        self.obey_further(option, value)
+    }
+
+    /// Does what the other options ask for.
+    fn obey_further(&mut self, option: Waiting<'a>, value: &'a str) -> Result<(), Wrong<'a>> {
+        let ask = option.ask;
+        let why = match ask {
+            Ask::Define => {
+                self.wanted.define(b'D', value)?;
+                return Ok(());
+            }
+            Ask::Force => {
+                self.wanted.define(b'F', value)?;
+                return Ok(());
+            }
+            Ask::Kinds => match self.wanted.given.kinds.take(value) {
+                Ok(()) => return Ok(()),
+                Err(why) => return Err(Wrong::Word("-W", value, why)),
+            },
+            Ask::Features => {
+                for feature in value.split(',') {
+                    let is_dry = matches!(feature, "syntax-only" | "all" | "");
+                    self.wanted.given.dry |= is_dry;
+                }
+                return Ok(());
+            }
+            Ask::Language if value != "c" && value != "C" => {
+                "parsers are in C, which C++ takes too"
+            }
+            Ask::Skeleton if value != "yacc.c" => {
+                "there is one skeleton, yacc.c, that of a parser in C"
+            }
+            Ask::Refused(why) => why,
+            Ask::Help | Ask::Version | Ask::DataFolder | Ask::LocaleFolder => {
+                self.text = self.text.or(Some(ask));
+                return Ok(());
+            }
+            _ => return Ok(()),
+        };
+        Err(Wrong::Word(option.dashes, option.name, why))
+    }
+
+    /// Reads the letters of a word.
+    fn read_letters(&mut self, letters: &'a str) -> Result<(), Wrong<'a>> {
+        let is_bison = self.wanted.given.bison;
+        for (at, letter) in letters.char_indices() {
+            let end = at.saturating_add(letter.len_utf8());
+            let name = letters.get(at..end).unwrap_or("");
+            let after = letters.get(end..).unwrap_or("");
+            let Some((_, _, _, has, ask, _)) = option_of(letter, is_bison) else {
+                return Err(Wrong::Word("-", name, "there is no such option"));
+            };
+            let dashes = "-";
+            let option = Waiting { ask, dashes, name };
+            match has {
+                Has::Nothing => self.obey(option, "")?,
+                Has::Value(_) if after.is_empty() && !matches!(ask, Ask::Refused(_)) => {
+                    self.waiting = Some(option);
+                    return Ok(());
+                }
+                Has::Value(_) | Has::Perhaps(_) => return self.obey(option, after),
+            }
+        }
+        Ok(())
+    }
+
+    /// Reads a long name, and a value behind an equals sign.
+    fn read_long(&mut self, word: &'a str) -> Result<(), Wrong<'a>> {
+        let (name, value) = match word.split_once('=') {
+            Some((name, value)) => (name, Some(value)),
+            None => (word, None),
+        };
+        let (_, _, _, has, ask, _) = match option_named(name) {
+            Found::One(known) => known,
+            Found::Several => {
+                return Err(Wrong::Word("--", name, "several options begin so"));
+            }
+            Found::None => return Err(Wrong::Word("--", name, "there is no such option")),
+        };
+        let dashes = "--";
+        let option = Waiting { ask, dashes, name };
+        match (has, value) {
+            (Has::Nothing, Some(_)) => Err(Wrong::Word(dashes, name, "it has no value")),
+            (Has::Value(_), None) if !matches!(ask, Ask::Refused(_)) => {
+                self.waiting = Some(option);
+                Ok(())
+            }
+            (_, value) => self.obey(option, value.unwrap_or("")),
+        }
+    }
+
+    /// Reads a word.
+    fn read(&mut self, word: &'a str) -> Result<(), Wrong<'a>> {
+        if let Some(option) = self.waiting {
+            self.waiting = None;
+            return self.obey(option, word);
+        }
+        let is_option = !self.is_past && word.len() > 1;
+        if is_option && word == "--" {
+            self.is_past = true;
+            return Ok(());
+        }
+        match (word.strip_prefix("--"), word.strip_prefix('-')) {
+            (Some(long), _) if is_option => self.read_long(long),
+            (None, Some(letters)) if is_option => self.read_letters(letters),
+            _ if self.has_grammar => Err(Wrong::Word("", word, "there is a grammar already")),
+            _ => {
+                self.has_grammar = true;
+                self.wanted.given.grammar = word;
+                Ok(())
+            }
+        }
+    }
+}
+
+/// What words ask for, of which the first is the program's name.
+pub fn asked_by<'a>(alloc: Global, words: &'a [String]) -> Result<Asked<'a>, Wrong<'a>> {
+    let mut reader = Reader {
+        wanted: Wanted::none(alloc, is_bison(words)),
+        has_grammar: false,
+        is_past: false,
+        waiting: None,
+        text: None,
+    };
+    for word in words.iter().skip(1) {
+        reader.read(word.as_str())?;
+        match reader.text {
+            Some(Ask::Help) => return Ok(Asked::Help),
+            Some(Ask::Version) => return Ok(Asked::Text(VERSION)),
+            Some(Ask::DataFolder) => return Ok(Asked::Text(DATA_FOLDER)),
+            Some(_) => return Ok(Asked::Text(LOCALE_FOLDER)),
+            None => {}
+        }
+    }
+    if let Some(option) = reader.waiting {
+        return Err(Wrong::Word(option.dashes, option.name, "it needs a value"));
+    }
+    if !reader.has_grammar {
+        return Err(Wrong::NoGrammar);
+    }
+    let bison = reader.wanted.given.bison;
+    Ok(Asked::Files(mem::replace(&mut reader.wanted, Wanted::none(alloc, bison))))
+}

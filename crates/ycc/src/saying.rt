@@ -1,0 +1,271 @@
+//! What is said of what is found.
+
+use crate::finding::{Finding, Idle, What};
+use crate::kinds::{Telling, name_of};
+use std::alloc::Global;
+use std::io::{self, Write};
+use yfiles::diagnostic::{Diagnostic, Severity};
+use yfiles::output::Output;
+use yfiles::place::Place;
+
+/// Writes a number of things, and a word for one and for several of them.
+fn put_count(out: &mut Output, count: usize, (one, several): (&str, &str), behind: &str) {
+    out.number(count);
+    out.put(" ");
+    out.put(if count == 1 { one } else { several });
+    out.put(behind);
+}
+
+/// Writes how many conflicts were found, and how many are expected, of a rule or of all.
+fn put_expected(
+    out: &mut Output,
+    what: &str,
+    rule: Option<usize>,
+    (found, expected): (usize, usize),
+) {
+    out.put(what);
+    out.put(" conflicts");
+    if let Some(rule) = rule {
+        out.put(" for rule ");
+        out.number(rule);
+    }
+    out.put(": ");
+    out.number(found);
+    out.put(" found, ");
+    out.number(expected);
+    out.put(" expected");
+}
+
+/// Says what is found of words.
+fn put_word(out: &mut Output, what: What<'_>) {
+    match what {
+        What::NoDirective(word) => out.put_pieces(&[b"POSIX Yacc does not support ", word]),
+        What::NoString => out.put("POSIX Yacc does not support string literals"),
+        What::NoHexadecimal => out.put("POSIX Yacc does not support hexadecimal literals"),
+        What::NoDash(name) => {
+            out.put_pieces(&[b"POSIX Yacc forbids dashes in symbol names: ", name]);
+        }
+        What::TypedToken => out.put("POSIX yacc reserves %type to nonterminals"),
+        What::TypedAction => out.put("POSIX Yacc does not support typed midrule actions"),
+        What::Old(old, better) => {
+            let (word, before) = (better.word.as_bytes(), better.before.as_bytes());
+            out.put_pieces(&[b"deprecated directive: '", old, b"', use '", word, before]);
+            out.put_pieces(&[better.part, better.behind.as_bytes(), b"'"]);
+        }
+        What::WantsWord(name) => {
+            out.put_pieces(&[b"%define variable '", name, b"' requires keyword values"]);
+        }
+        What::WantsBraces(name) => {
+            out.put_pieces(&[b"%define variable '", name, b"' requires '{...}' values"]);
+        }
+        What::Redefined(name) => {
+            out.put_pieces(&[b"%define variable '", name, b"' redefined"]);
+        }
+        What::Comma => out.put("stray ',' treated as white space"),
+        What::ExpectReduce => out.put("%expect-rr applies only to GLR parsers"),
+        What::RuleExpectsReduce => out.put("%expect-rr affects only GLR parsers"),
+        _ => {}
+    }
+}
+
+/// Says what is found of precedences, and of words.
+fn put_level(out: &mut Output, what: What<'_>) {
+    match what {
+        What::Idle(Idle::Both, name) => {
+            out.put_pieces(&[b"useless precedence and associativity for ", name]);
+        }
+        What::Idle(Idle::Level, name) => out.put_pieces(&[b"useless precedence for ", name]),
+        What::Idle(Idle::Direction, name) => {
+            out.put_pieces(&[b"useless associativity for ", name, b", use %precedence"]);
+        }
+        what => put_word(out, what),
+    }
+}
+
+/// Says what is found of symbols.
+fn put_symbol(out: &mut Output, what: What<'_>) {
+    match what {
+        What::Redeclared(name) => out.put_pieces(&[b"symbol ", name, b" redeclared"]),
+        What::Retagged(name) => out.put_pieces(&[b"%type redeclaration for ", name]),
+        What::SecondString(text) => {
+            out.put_pieces(&[
+                b"symbol ",
+                text,
+                b" used more than once as a literal string",
+            ]);
+        }
+        What::SecondAlias(name) => {
+            out.put_pieces(&[b"symbol ", name, b" given more than one literal string"]);
+        }
+        What::Loose(text) => {
+            out.put_pieces(&[b"string literal ", text, b" not attached to a symbol"]);
+        }
+        What::NoRules(name) => out.put_pieces(&[
+            b"symbol '",
+            name,
+            b"' is used, but is not defined as a token and has no rules",
+        ]),
+        What::NoSymbol(tag) => {
+            out.put_pieces(&[
+                b"type ",
+                tag,
+                b" is used, but is not associated to any symbol",
+            ]);
+        }
+        What::IdleCode(word, tag) => {
+            out.put_pieces(&[b"useless ", word, b" for type ", tag]);
+        }
+        What::Nonterminals(count) => {
+            let words = ("nonterminal", "nonterminals");
+            put_count(out, count, words, " useless in grammar");
+        }
+        What::Nonterminal(name) => {
+            out.put("nonterminal useless in grammar: ");
+            // that of an action within a body is called as bison calls it
+            match name.strip_prefix(b"$$") {
+                Some(number) => out.put_pieces(&[b"$@", number]),
+                None => out.put_bytes(name),
+            }
+        }
+        what => put_level(out, what),
+    }
+}
+
+/// Says what is found of conflicts, and of symbols.
+fn put_conflicts(out: &mut Output, what: What<'_>) {
+    match what {
+        What::Shifts(count) => {
+            put_count(
+                out,
+                count,
+                ("shift/reduce conflict", "shift/reduce conflicts"),
+                "",
+            );
+        }
+        What::Reduces(count) => {
+            put_count(
+                out,
+                count,
+                ("reduce/reduce conflict", "reduce/reduce conflicts"),
+                "",
+            );
+        }
+        What::OtherShifts(found, expected) => {
+            put_expected(out, "shift/reduce", None, (found, expected));
+        }
+        What::OtherReduces(found, expected) => {
+            put_expected(out, "reduce/reduce", None, (found, expected));
+        }
+        What::OtherInRule(rule, found, expected) => {
+            put_expected(out, "shift/reduce", Some(rule), (found, expected));
+        }
+        what => put_symbol(out, what),
+    }
+}
+
+/// Says what is found.
+fn put_what(out: &mut Output, what: What<'_>) {
+    match what {
+        What::Empty => out.put("empty rule without %empty"),
+        What::NoValue => out.put("empty rule for typed nonterminal, and no action"),
+        What::Clash(left, first) => {
+            out.put_pieces(&[
+                b"type clash on default action: <",
+                left,
+                b"> != <",
+                first,
+                b">",
+            ]);
+        }
+        What::Unused(place) => {
+            out.put("unused value: $");
+            out.number(place);
+        }
+        What::Unset => out.put("unset value: $$"),
+        What::Rules(count) => put_count(out, count, ("rule", "rules"), " useless in grammar"),
+        What::Rule => out.put("rule useless in grammar"),
+        What::Lost => out.put("rule useless in parser due to conflicts"),
+        what => put_conflicts(out, what),
+    }
+}
+
+/// Whether conflicts are found.
+fn is_conflict(what: What<'_>) -> bool {
+    matches!(
+        what,
+        What::Shifts(_)
+            | What::Reduces(_)
+            | What::OtherShifts(..)
+            | What::OtherReduces(..)
+            | What::OtherInRule(..)
+    )
+}
+
+/// What is said of something that is found in a file of this path and these bytes, with a text
+/// that helps.
+pub fn diagnostic_of(
+    alloc: Global,
+    (path, source): (&str, &[u8]),
+    finding: Finding<'_>,
+    telling: Telling,
+) -> io::Result<Diagnostic> {
+    let mut one = match finding.at {
+        Some(at) => Diagnostic::at(alloc, Place { path, source, at }, true)?,
+        None => Diagnostic::new(alloc, Some(path), None)?,
+    };
+    let is_error = finding.kind.is_none() || telling == Telling::Error;
+    if !is_error {
+        one.severity = Severity::Warning;
+    }
+    let mut out = Output::new(alloc);
+    put_what(&mut out, finding.what);
+    if let Some(kind) = finding.kind {
+        out.put(if is_error { " [-Werror=" } else { " [-W" });
+        out.put(name_of(kind));
+        out.put("]");
+    }
+    one.message = out.into_bytes()?;
+    if let Some(at) = finding.before {
+        let mut text = Vec::new(alloc);
+        write!(
+            text,
+            "it was declared before at {}",
+            Place { path, source, at }.spot()
+        )?;
+        one.help(text)?;
+    }
+    if is_conflict(finding.what) {
+        let mut text = Output::new(alloc);
+        put_way(&mut text, path);
+        one.help(text.into_bytes()?)?;
+    }
+    Ok(one)
+}
+
+/// Says what shows conflicts.
+fn put_way(out: &mut Output, path: &str) {
+    out.put("ydebug conflicts ");
+    out.put(path);
+    out.put(" shows them, with an input for each");
+}
+
+/// Says in one line how many shift/reduce and reduce/reduce conflicts there are, as byacc does, and
+/// what shows them.
+pub fn put_counts(out: &mut Output, path: &str, (shifts, reduces): (usize, usize)) {
+    if shifts == 0 && reduces == 0 {
+        return;
+    }
+    out.put("ycc: ");
+    if shifts > 0 {
+        put_what(out, What::Shifts(shifts));
+    }
+    if shifts > 0 && reduces > 0 {
+        out.put(", ");
+    }
+    if reduces > 0 {
+        put_what(out, What::Reduces(reduces));
+    }
+    out.put(".\n  ");
+    put_way(out, path);
+    out.line("");
+}

@@ -1,0 +1,107 @@
+//! The states that a parse can come to, the rules that are reduced there, and their conflicts as
+//! bison counts them.
+
+use std::alloc::Global;
+use yexplain::reads::{Made, action_of, candidates_of, goto_of, grammar_of, set, shift_of};
+use ysymbols::Sym;
+use ytables::{Action, Class, Tables};
+
+/// A walk over the states that a parse can come to.
+#[derive(Drop)]
+pub struct Walk {
+    /// These states, in the order in which they were met.
+    reached: Vec<usize>,
+    is_reached: Vec<bool>,
+    /// The rules that are reduced in them.
+    pub reduced: Vec<bool>,
+}
+
+/// Shift/reduce and reduce/reduce conflicts.
+#[derive(Clone, Copy, Drop)]
+pub struct Conflicts {
+    /// Those with a shift.
+    pub shifts: usize,
+    /// Those between rules.
+    pub reduces: usize,
+}
+
+/// Whether a shift is left in a cell, and how many rules: they are compared with the shift one
+/// after the other, as long as it is there.
+fn left_in(tables: &Tables, state: usize, token: Sym) -> (bool, usize) {
+    let mut has_shift = shift_of(tables, state, token).is_some();
+    let mut rules: usize = 0;
+    for candidate in candidates_of(tables, state, token) {
+        let class = if has_shift {
+            candidate.standing.class()
+        } else {
+            Class::Rest
+        };
+        has_shift = has_shift && matches!(class, Class::Rest | Class::Lose);
+        rules = rules.saturating_add(usize::from(matches!(class, Class::Rest | Class::Beat)));
+    }
+    (has_shift, rules)
+}
+
+impl Walk {
+    /// Comes to a state.
+    fn come_to(&mut self, state: usize) -> Made<()> {
+        if self.is_reached.get(state) == Some(&false) {
+            set(&mut self.is_reached, state, true);
+            self.reached.push(state)?;
+        }
+        Ok(())
+    }
+
+    /// Looks at a state.
+    fn look_at(&mut self, tables: &Tables, state: usize) -> Made<()> {
+        let grammar = grammar_of(tables);
+        for symbol in 0..grammar.symbols() {
+            if grammar.is_token(symbol) {
+                match action_of(tables, state, symbol) {
+                    Action::Reduce(rule) => set(&mut self.reduced, rule, true),
+                    Action::Shift(next) => self.come_to(next)?,
+                    _ => {}
+                }
+            } else if let Some(next) = goto_of(tables.automaton(), state, symbol) {
+                self.come_to(next)?;
+            }
+        }
+        Ok(())
+    }
+
+    /// The walk over all of them.
+    pub fn new(alloc: Global, tables: &Tables) -> Made<Walk> {
+        let states = tables.automaton().states();
+        let mut walk = Walk {
+            reached: Vec::new(alloc),
+            is_reached: vec![in alloc; false; states]?,
+            reduced: vec![in alloc; false; grammar_of(tables).rules()]?,
+        };
+        walk.come_to(0)?;
+        for at in 0..states {
+            let Some(state) = walk.reached.get(at).copied() else {
+                break;
+            };
+            walk.look_at(tables, state)?;
+        }
+        Ok(walk)
+    }
+
+    /// The conflicts in them, as bison counts them: a shift that meets two rules makes one of each
+    /// kind.
+    pub fn conflicts(&self, tables: &Tables) -> Conflicts {
+        let mut found = Conflicts {
+            shifts: 0,
+            reduces: 0,
+        };
+        for state in &self.reached {
+            for token in 0..grammar_of(tables).symbols() {
+                let (has_shift, rules) = left_in(tables, *state, token);
+                let is_met = has_shift && rules > 0;
+                found.shifts = found.shifts.saturating_add(usize::from(is_met));
+                found.reduces = found.reduces.saturating_add(rules.saturating_sub(1));
+            }
+        }
+        found
+    }
+}

@@ -1,0 +1,5 @@
+%code { int x; }
+%token A
+%%
+s : A ;
+t : ;
