@@ -47,6 +47,8 @@ ASIDE = re.compile(rb"/\*.*?\*/|//[^\n]*|%\{.*?%\}", re.S)
 TOKEN = re.compile(r"(?m)^(?:#define\s+|\s+)(\w+)\s*(?:=\s*)?(\d+)\s*(?:,|/\*.*)?$")
 ERROR = re.compile(r"(?m)^[^\n:]*:(?:\d+:)*\s*(?:fatal )?error: (.*)$")
 LACKING = re.compile(r"fatal error: (\S+): No such file")
+# The words for a parser that is its peer's: as a whole, or but for what neither compiles.
+ALIKE, PARTLY = "alike", "alike where it compiles"
 # The most folders that are searched for headers, and how many of these are made up where they lack.
 FOLDERS, MADE_UP, CONFIGURES, COMPILES = 150, 25, 240, 60
 
@@ -175,7 +177,9 @@ def verdict(ours, peer):
     more = Counter(ours.errors) - Counter(peer.errors)
     if more:
         return "doesn't compile", min(more)
-    return "alike", f"{len(peer.errors)} errors of what isn't here" if peer.errors else ""
+    if peer.errors:
+        return PARTLY, f"{len(peer.errors)} errors of what isn't here"
+    return ALIKE, ""
 
 
 def looked_at(user, file, room, package, ycc):
@@ -246,7 +250,7 @@ def main(words):
         apt = Apt(Path(room).absolute())
         for found in taken(users(apt), apt, given):
             kinds.update(found)
-            tally.add(*(1, 0) if {*found} == {"alike"} else (0, 1))
+            tally.add(*(1, 0) if {*found} <= {ALIKE, PARTLY} else (0, 1))
     told = ", ".join(f"{number} {word}" for word, number in kinds.most_common())
     packages = tally.passed + tally.failed
     print(f"grammars: {told}; packages all alike: {tally.passed} of {packages}")

@@ -404,8 +404,10 @@ Build-Depends-Arch: byacc [linux-any]
     def test_verdicts(self):
         """A refusal, other numbers and an error more of ours; errors of both don't count."""
         peer = drawn.Made(tokens=(("A", "258"),), errors=("x", "x"))
-        self.assertEqual(drawn.verdict(peer, peer)[0], "alike")
-        self.assertEqual(drawn.verdict(drawn.Made(tokens=peer.tokens), peer)[0], "alike")
+        self.assertEqual(drawn.verdict(peer, peer)[0], drawn.PARTLY)
+        self.assertEqual(drawn.verdict(drawn.Made(tokens=peer.tokens), peer)[0], drawn.PARTLY)
+        whole = drawn.Made(tokens=peer.tokens)
+        self.assertEqual(drawn.verdict(whole, whole)[0], drawn.ALIKE)
         for ours, word in (
             (drawn.Made(refusal="no"), "refused"),
             (drawn.Made(tokens=(("A", "259"),)), "other tokens"),
