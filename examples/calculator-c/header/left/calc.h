@@ -21,7 +21,7 @@ union YYSTYPE
 
   double number;
   int variable;
-#line 26 "calc.h"
+#line 25 "calc.h"
 };
 typedef union YYSTYPE YYSTYPE;
 # define YYSTYPE_IS_TRIVIAL 1
