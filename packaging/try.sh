@@ -29,7 +29,7 @@ dpkg_there() {
 
 answers() { cmp -s "$1" "$2" || fail "other sums by $3"; }
 
-options_of() { "$@" --help | grep -o -E -e '(^|[ ,])--?[A-Za-z][A-Za-z-]*' | tr -d ' ,' | sort -u; }
+options_of() { "$@" --help | sed '/^Refused:/,$d' | grep -o -E -e '(^|[ ,])--?[A-Za-z][A-Za-z-]*' | tr -d ' ,' | sort -u; }
 
 named() {
   file=$1

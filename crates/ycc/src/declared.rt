@@ -131,10 +131,26 @@ impl<'a> Declared<'a> {
         Ok(())
     }
 
+    /// Finds a string that stands for no token, where it stands first.
+    fn find_loose(&mut self, lexeme: &Lexeme) -> Made<()> {
+        let (seen, at) = (self.seen, lexeme.span.from);
+        let text = inside(seen.source, lexeme);
+        let is_made = seen.imported.spelling.is_made(seen.source, lexeme);
+        if !is_made || is_among(&self.strings, text) {
+            return Ok(());
+        }
+        let what = What::Loose(seen.text(lexeme));
+        self.found.push(warning(Kind::DanglingAlias, at, what))?;
+        intern(seen.alloc, &mut self.strings, text)
+    }
+
     /// Finds what is to be said of a symbol of a list.
     fn find_symbol(&mut self, lexeme: &Lexeme, directive: Directive, has_tag: bool) -> Made<()> {
         let seen = self.seen;
         let at = lexeme.span.from;
+        if is_text(lexeme.kind) {
+            self.find_loose(lexeme)?;
+        }
         let Some(symbol) = seen.symbol(lexeme)? else {
             return match lexeme.kind {
                 Form::Name => self.find_stranger(lexeme, directive),
@@ -158,6 +174,8 @@ impl<'a> Declared<'a> {
         } else if self.aliased.get(symbol) == Some(&true) {
             let what = What::SecondAlias(seen.text(token));
             self.found.push(warning(Kind::Other, at, what))?;
+            let loose = What::Loose(seen.text(lexeme));
+            self.found.push(warning(Kind::DanglingAlias, at, loose))?;
         }
         set(&mut self.aliased, symbol, true);
         intern(seen.alloc, &mut self.strings, text)
@@ -258,13 +276,7 @@ impl<'a> Declared<'a> {
                 Form::Braced if is_typed => self
                     .found
                     .push(warning(Kind::Yacc, at, What::TypedAction))?,
-                kind if is_text(kind) && seen.imported.spelling.is_made(seen.source, lexeme) => {
-                    if !is_among(&self.strings, inside(seen.source, lexeme)) {
-                        self.found
-                            .push(warning(Kind::DanglingAlias, at, What::Loose(text)))?;
-                        intern(seen.alloc, &mut self.strings, inside(seen.source, lexeme))?;
-                    }
-                }
+                kind if is_text(kind) => self.find_loose(lexeme)?,
                 _ => {}
             }
         }

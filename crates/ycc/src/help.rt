@@ -59,21 +59,26 @@ fn put_option(out: &mut Output, known: Known) {
         Whose::Byacc => out.put("as byacc: "),
     }
     match ask {
-        Ask::Refused(why) => {
-            out.put("Refused: ");
-            out.line(why);
-        }
+        Ask::Refused(why) => out.line(why),
         _ => out.line(help),
     }
 }
 
-/// The list of options.
+/// The list of options: those that do something, and those that are refused.
 pub fn help_text(alloc: Global) -> Output {
     let mut out = Output::new(alloc);
     out.put_bytes(USAGE);
     out.put(HEAD);
     for known in OPTIONS {
-        put_option(&mut out, known);
+        if !matches!(known.4, Ask::Refused(_)) {
+            put_option(&mut out, known);
+        }
+    }
+    out.put("Refused:\n");
+    for known in OPTIONS {
+        if matches!(known.4, Ask::Refused(_)) {
+            put_option(&mut out, known);
+        }
     }
     out.put("Kinds of warnings:\n  ");
     out.put(LISTED);

@@ -66,18 +66,18 @@ fn uses_of<'a>(seen: Seen<'a>, body: Body<'a>, cut: &Cut<'a>) -> Made<Uses> {
     Ok(uses)
 }
 
-/// Whether a value has code that is run where it is thrown away, and is one: that of an action
-/// within a body is where it is set or used. Code for all symbols isn't for that of `error`.
+/// Whether a value has code that is run where it is thrown away. Code for all symbols isn't for that
+/// of `error`, nor for that of an action within a body that is neither set nor used.
 fn is_destroyed(seen: Seen<'_>, entry: Entry<'_>, is_value: bool) -> bool {
-    let is_error = entry.symbol == Some(ERROR);
+    let is_any = is_value && entry.symbol != Some(ERROR);
     for care in &seen.parts.cares {
         let is_meant = match care.whose {
             Meant::Symbol(symbol) => entry.symbol == Some(symbol),
             Meant::Tag(tag) => entry.tag == Some(tag),
-            Meant::Tagged => entry.tag.is_some() && !is_error,
-            Meant::Untagged => entry.tag.is_none() && !is_error,
+            Meant::Tagged => entry.tag.is_some() && is_any,
+            Meant::Untagged => entry.tag.is_none() && is_any,
         };
-        if care.deed == Deed::Destroy && is_meant && is_value {
+        if care.deed == Deed::Destroy && is_meant {
             return true;
         }
     }
