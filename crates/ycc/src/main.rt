@@ -10,6 +10,7 @@ mod ending;
 mod making;
 mod messages;
 mod names;
+mod policy;
 mod reading;
 mod words;
 

@@ -3,6 +3,7 @@
 use crate::ending::{Ending, File, outside, say, tell};
 use crate::messages::speech_of;
 use crate::names::{Names, names_of};
+use crate::policy::policy_of;
 use crate::reading::Reading;
 use crate::words::Given;
 use std::alloc::Global;
@@ -45,6 +46,7 @@ fn wishes_of(given: Given<'_>, options: &Options<'_>) -> Wishes {
         is_yacc: given.yacc || options.is_yacc,
         lists: given.lists,
         speaks: given.messages.is_some(),
+        policy: policy_of(options, is_bison, given.messages.is_some()),
     }
 }
 
@@ -129,12 +131,8 @@ pub fn write_files(
         let whose = if is_bison { "bison" } else { "byacc" };
         tell(rt, &["ycc: ", path, ": order and names of ", whose]);
     }
-    if parts.options.lac {
-        let why = "parse.lac is not done: lists can lack tokens that could come";
-        tell(rt, &[path, ": warning: ", why]);
-    }
     let style = style_of(alloc, parts, wishes, given.prefix)?;
-    let code = code_of(alloc, tables)?;
+    let code = code_of(alloc, tables, wishes.policy)?;
     let speech = speech_of(rt, given.messages, tables, &style)?;
     let grammar = tables.automaton().grammar();
     let numbering = Numbering::of(alloc, grammar, parts, &code)?;

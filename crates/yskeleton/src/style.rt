@@ -2,6 +2,7 @@
 
 use crate::references::{Dialect, Piece, piece_at};
 use std::alloc::Global;
+use ycode::Policy;
 use yexplain::reads::Made;
 use yparts::options::{Errors, Options, Purity};
 use yparts::parts::{Deed, Parts};
@@ -31,6 +32,8 @@ pub struct Wishes {
     pub lists: bool,
     /// Whether there are messages for errors.
     pub speaks: bool,
+    /// Which states reduce by default.
+    pub policy: Policy,
 }
 
 /// How a parser looks.
@@ -156,9 +159,31 @@ impl<'a> Style<'a> {
         self.errors() == Errors::Custom
     }
 
-    /// Whether tokens that could come are listed as bison lists them.
+    /// Whether a parser reduces by default as bison's does.
+    pub fn is_most(&self) -> bool {
+        matches!(self.wishes.policy, Policy::Most)
+    }
+
+    /// Whether a token is tried before the first action on it.
+    pub fn looks_ahead(&self) -> bool {
+        self.options.lac && self.is_bison()
+    }
+
+    /// Whether tokens that could come are asked for.
+    pub fn asks(&self) -> bool {
+        self.wishes.speaks || self.errors() != Errors::Simple
+    }
+
+    /// Whether these are the tokens of a state's row, since the state has reduced by default.
+    pub fn has_rows(&self) -> bool {
+        self.is_most() && !self.looks_ahead()
+    }
+
+    /// Whether tokens that could come are listed as bison lists them, by a parser that has not
+    /// reduced as bison's has.
     pub fn lists(&self) -> bool {
-        self.wishes.lists && self.errors() != Errors::Simple
+        let is_plain = !self.is_most() && !self.looks_ahead();
+        self.wishes.lists && is_plain && self.errors() != Errors::Simple
     }
 
     /// What the names of tokens begin with.
@@ -192,6 +217,10 @@ impl<'a> Style<'a> {
             "verbose" => self.errors() == Errors::Verbose,
             "custom" => self.is_custom(),
             "lists" => self.lists(),
+            "most" => self.is_most(),
+            "lac" => self.looks_ahead(),
+            "asks" => self.asks(),
+            "rows" => self.has_rows(),
             "speaks" => self.wishes.speaks,
             "names" => self.options.has_names,
             _ => false,
