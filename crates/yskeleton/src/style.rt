@@ -174,16 +174,18 @@ impl<'a> Style<'a> {
         self.wishes.speaks || self.errors() != Errors::Simple
     }
 
-    /// Whether these are the tokens of a state's row, since the state has reduced by default.
+    /// Whether these are the tokens of the row of the state that the error is found in: as bison
+    /// has them under the same policy.
     pub fn has_rows(&self) -> bool {
-        self.is_most() && !self.looks_ahead()
+        let is_plain = !self.wishes.lists && !self.wishes.speaks;
+        !self.looks_ahead() && (self.is_most() || is_plain)
     }
 
-    /// Whether tokens that could come are listed as bison lists them, by a parser that has not
-    /// reduced as bison's has.
+    /// Whether they are those that bison would list, of a parser that has not reduced as bison's
+    /// has by default.
     pub fn lists(&self) -> bool {
-        let is_plain = !self.is_most() && !self.looks_ahead();
-        self.wishes.lists && is_plain && self.errors() != Errors::Simple
+        let is_other = self.is_most() || self.looks_ahead();
+        self.wishes.lists && !is_other && self.errors() != Errors::Simple
     }
 
     /// What the names of tokens begin with.
