@@ -88,6 +88,7 @@ compare:
 
 parsers: build
 	@$(checks) parsers --drawn 2000 $(call at,yacc ystep ycc ydebug)
+	@$(checks) policies --drawn 500 $(call at,ycc)
 
 features: build
 	@$(checks) features $(call at,ycc)

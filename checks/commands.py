@@ -32,6 +32,7 @@ GROUPS = {
     },
     "parsers and drivers": {
         "parsers": "parsers.parsers",
+        "policies": "parsers.policies",
         "drivers": "parsers.drivers",
     },
     "the library": {

@@ -152,7 +152,8 @@ def built(folder, grammar, ycc):
     """The parser of a grammar."""
     file, parser, program = (f"{folder}/{it}" for it in ("grammar.y", "parser.c", "parser"))
     Path(file).write_bytes(HEAD + bare(grammar) + TAIL)
-    order = ["--bison"] if zlib.crc32(grammar) % 2 else []
+    bison = ["--bison", "-Dlr.default-reduction=consistent"]
+    order = bison if zlib.crc32(grammar) % 2 else []
     ran([ycc, *order, "-Wnone", "-o", parser, file], "ycc")
     ran([compiler(), *WAY, *CHECKED, "-o", program, parser], "the compiler")
     return program

@@ -27,6 +27,7 @@ mod messages;
 mod names;
 mod options;
 mod persona;
+mod policy;
 mod reader;
 mod reading;
 mod saying;

@@ -3,6 +3,7 @@
 use crate::ending::{Ending, File, outside, say, tell};
 use crate::messages::speech_of;
 use crate::names::{Names, names_of};
+use crate::policy::policy_of;
 use crate::reading::Reading;
 use crate::warnings::tell_found;
 use crate::words::Given;
@@ -46,6 +47,7 @@ fn wishes_of(given: Given<'_>, options: &Options<'_>) -> Wishes {
         is_yacc: given.yacc || options.is_yacc,
         lists: given.lists,
         speaks: given.messages.is_some(),
+        policy: policy_of(options, is_bison, given.messages.is_some()),
     }
 }
 
@@ -123,18 +125,6 @@ fn refuse_misuses(rt: &HostRuntime, file: &File, skeleton: &Skeleton<'_>) -> Res
     ending
 }
 
-/// Says whose order and names a parser has, where a report is wanted, and what isn't done for it.
-fn tell_ways(rt: &HostRuntime, given: Given<'_>, path: &str, lac: bool, is_bison: bool) {
-    if given.verbose {
-        let whose = if is_bison { "bison" } else { "byacc" };
-        tell(rt, &["ycc: ", path, ": order and names of ", whose]);
-    }
-    if lac {
-        let why = "parse.lac is not done: lists can lack tokens that could come";
-        tell(rt, &[path, ": warning: ", why]);
-    }
-}
-
 /// Makes all texts, and then writes their files.
 pub fn write_files(
     rt: &HostRuntime,
@@ -147,9 +137,12 @@ pub fn write_files(
     let wishes = wishes_of(given, &parts.options);
     let is_bison = wishes.mode == Mode::Bison;
     let names = names_of(alloc, given, &parts.options, is_bison)?;
-    tell_ways(rt, given, path, parts.options.lac, is_bison);
+    if given.verbose {
+        let whose = if is_bison { "bison" } else { "byacc" };
+        tell(rt, &["ycc: ", path, ": order and names of ", whose]);
+    }
     let style = style_of(alloc, parts, wishes, given.prefix)?;
-    let code = code_of(alloc, tables)?;
+    let code = code_of(alloc, tables, wishes.policy)?;
     let speech = speech_of(rt, given.messages, tables, &style)?;
     let grammar = tables.automaton().grammar();
     let numbering = Numbering::of(alloc, grammar, parts, &code, is_bison)?;

@@ -1,6 +1,6 @@
 -- The arrays of a parser, of what they were made.
 use Rattle.std.proofs.Common.{ℕ, ◌≡◌, ◌+◌, ◌*◌, ◌^◌, ◌<◌, ◌≤◌, ◌⊎◌, inl, inr, List, length, ap, ◌∙◌}
-use Rattle.std.proofs.Common.{Bool, true}
+use Rattle.std.proofs.Common.{Bool, true, Option}
 use Rattle.std.proofs.Common.{false, sym, subst, nat_lt, if◌then◌else◌}
 use Rattle.std.proofs.Common.{arith, slice_index}
 use Rattle.std.proofs.lemmas.List.{get_or_past}
@@ -10,18 +10,22 @@ use Rattle.ybitsets.specs.Limits.{most_states}
 use Rattle.ysymbols.specs.WellFormed.{WellFormed}
 use Rattle.ylalr.specs.declared.items.Item.{Item}
 use Rattle.ylalr.specs.Collection.{HasStates, state_of}
+use Rattle.ytables.specs.declared.cell.Action.TheVariants.{Error}
 use Rattle.ytables.specs.Tables.{TablesValue, action_at}
 use Rattle.ycode.specs.declared.code.Code.{Code}
 use Rattle.ycode.specs.declared.comb.Comb.{Comb}
 use Rattle.ycode.specs.declared.entry.Entry.{Entry}
+use Rattle.ycode.specs.declared.policy.Policy.{Policy}
+use Rattle.ycode.specs.declared.policy.Policy.TheVariants.{Consistent}
 use Rattle.ycode.specs.declared.sizes.Sizes.{Sizes}
 use Rattle.ycode.specs.Bits.{bit_of, SetsValue, IsSets}
 use Rattle.ycode.specs.Cells.{states_of, tokens_of, symbols_of, rules_of, AreSizes, AreCells}
 use Rattle.ycode.specs.Cells.{AreSets}
 use Rattle.ycode.specs.Cells.{Fits}
 use Rattle.ycode.specs.Combs.{held, HasRows, AreAtMost}
-use Rattle.ycode.specs.Reading.{done_by, is_explicit, read_action}
-use Rattle.ycode.specs.Reads.{Reads, IsInside, AreShort, AreSmall}
+use Rattle.ycode.specs.Policies.{act_at, always_at, filled_by, rule_for, stays_error}
+use Rattle.ycode.specs.Reading.{done_by, is_explicit, read_action, read_default}
+use Rattle.ycode.specs.Reads.{Reads, IsExact, IsInside, AreShort, AreSmall}
 use Rattle.ycode.specs.Symbols.{StandsBefore}
 use Rattle.ycode.specs.Targets.{AreTargets}
 use Rattle.ycode.specs.Translation.{TranslatesTo, translated}
@@ -29,12 +33,13 @@ use Rattle.ycode.proofs.ReadSteps.{places_small, action_is, refusal_is, default_
 use Rattle.ycode.proofs.ReadSteps.{bits_inside, usual_most, sets_most, goto_is, goto_inside}
 use Rattle.ycode.proofs.ReadSteps.{none_is, goto_in_range}
 use Rattle.ycode.proofs.CellSteps.{goto_below}
+use Rattle.ycode.proofs.PolicySteps.{act_fits, always_acts, exact_acts, exact_always, filled_kept}
 use Rattle.ycode.proofs.PackingSteps.{less_or_not}
 use Rattle.ycode.proofs.SymbolSteps.{symbol_is, symbol_small}
 
-module _ (v : TablesValue) (z : Sizes) (a : AreSizes v z) (usual sets : List ℕ) (s : SetsValue)
-    (rows : List (List Entry)) (c1 : Comb) (cells : AreCells v (states_of v) usual sets s rows)
-    (b : AreSets v (states_of v) s) (i : IsSets s) (h1 : HasRows rows (tokens_of v + 1) c1)
+module _ (p : Policy) (v : TablesValue) (z : Sizes) (a : AreSizes v z) (usual sets : List ℕ) (s : SetsValue)
+    (rows : List (List Entry)) (c1 : Comb) (cells : AreCells p v (states_of v) usual sets s rows)
+    (b : AreSets p v (states_of v) s) (i : IsSets s) (h1 : HasRows rows (tokens_of v + 1) c1)
     (tu : List ℕ) (trows : List (List Entry)) (c2 : Comb)
     (t : AreTargets v (states_of v) tu trows) (h2 : HasRows trows (length tu) c2)
     (symbols lengths lefts numbers : List ℕ) (hs : HasStates v.built)
@@ -61,35 +66,59 @@ module _ (v : TablesValue) (z : Sizes) (a : AreSizes v z) (usual sets : List ℕ
   }
 
   action_read : (q x : ℕ) → q < states_of v → x < tokens_of v →
-      read_action the_code q x ≡ action_at v q x
+      read_action the_code q x ≡ act_at p v q x
   action_read q x l m =
       ap (λ y. done_by y r (slice_index usual q)
       (bit_of s.bytes (slice_index sets q * s.span) x) (held c1 q x)) en
       ∙ (ap (λ y. done_by (states_of v) y (slice_index usual q)
       (bit_of s.bytes (slice_index sets q * s.span) x) (held c1 q x)) er
-      ∙ action_is v z a usual sets s rows c1 cells h1 q x l m)
+      ∙ action_is v z a p usual sets s rows c1 cells h1 q x l m)
+
+  none_read : (q : ℕ) → q < states_of v →
+      read_action the_code q (tokens_of v) ≡ filled_by false (rule_for p v q) Error
+  none_read q l =
+      ap (λ y. done_by y r (slice_index usual q)
+      (bit_of s.bytes (slice_index sets q * s.span) (tokens_of v)) (held c1 q (tokens_of v))) en
+      ∙ (ap (λ y. done_by (states_of v) y (slice_index usual q)
+      (bit_of s.bytes (slice_index sets q * s.span) (tokens_of v)) (held c1 q (tokens_of v))) er
+      ∙ none_is v z a p usual sets s rows c1 cells h1 q l)
+
+  default_read : (q : ℕ) → q < states_of v → read_default the_code q ≡ always_at p v q
+  default_read = default_is v z a p usual sets s rows c1 cells h1
+
+  -- without default reductions
+  exact : p ≡ Consistent → IsExact v the_code
+  exact e = record {
+    action = λ q x l m. action_read q x l m ∙
+        (ap (λ (y : Policy). act_at y v q x) e ∙ exact_acts v q x);
+    default = λ q l. default_read q l ∙
+        (ap (λ (y : Policy). always_at y v q) e ∙ exact_always v q);
+    none = λ q l d. none_read q l ∙
+        (ap (λ (y : Policy). filled_by false (rule_for y v q) Error) e ∙
+        ap (λ (o : Option ℕ). filled_by false o Error) d);
+  }
 
   module _ (le : (x : ℕ) → x < rules_of v → slice_index lengths x ≡
       length (body_of v.built.grammar.bare x))
       (fe : (x : ℕ) → x < rules_of v → tokens_of v + slice_index lefts x ≡
       left_of v.built.grammar.bare x)
       (tr : TranslatesTo (tokens_of v) v.built.grammar.numbers (tokens_of v) numbers) where
-    pub reads : Reads v the_code
+    pub reads : Reads p v the_code
     reads = record {
       states = en;
       rules = er;
       tokens = ek;
       action = action_read;
-      none = λ q l d.
-          ap (λ y. done_by y r (slice_index usual q)
-          (bit_of s.bytes (slice_index sets q * s.span) (tokens_of v)) (held c1 q (tokens_of v))) en
-          ∙ (ap (λ y. done_by (states_of v) y (slice_index usual q)
-          (bit_of s.bytes (slice_index sets q * s.span) (tokens_of v)) (held c1 q (tokens_of v))) er
-          ∙ none_is v z a usual sets s rows c1 cells h1 q l d);
-      default = default_is v z a usual sets s rows c1 cells h1;
+      none = none_read;
+      default = default_read;
       refusal = λ q x l m. ap (λ y. is_explicit (y + r) (held c1 q x)) en
           ∙ (ap (λ y. is_explicit (states_of v + y) (held c1 q x)) er
-          ∙ refusal_is v z a usual sets s rows c1 cells h1 q x l m);
+          ∙ refusal_is v z a p usual sets s rows c1 cells h1 q x l m);
+      kept = λ q x l m f. action_read q x l m ∙
+          filled_kept (stays_error p v q x) (rule_for p v q) (action_at v q x) f;
+      always = λ q x k l m e. action_read q x l m ∙
+          always_acts p v q x k (sym (default_read q l) ∙ e) m;
+      exact = exact;
       goto = goto_is v z a tu trows c2 t h2;
       symbol = λ q x m l b e. symbol_is v.built q x m (slice_index symbols m) hs l b e
           (se m (goto_below v.built q x m hs l b e));
@@ -114,11 +143,11 @@ module _ (v : TablesValue) (z : Sizes) (a : AreSizes v z) (usual sets : List ℕ
     rules = (ll, fl);
     targets = t.count;
     cells = (h1.beside, h2.beside);
-    action = action_inside v z a usual sets s rows c1 cells h1;
-    bits = bits_inside v z a usual sets s rows c1 cells h1 b i;
+    action = action_inside v z a p usual sets s rows c1 cells h1;
+    bits = bits_inside v z a p usual sets s rows c1 cells h1 b i;
     goto = goto_inside v z a tu trows c2 t h2;
     next = λ q x l m. subst (Fits (states_of v) (rules_of v)) (sym (action_read q x l m))
-        (a.actions q x l m);
+        (act_fits v z a q l p x m);
     to = goto_in_range v z a tu trows c2 t h2;
     usual = λ q l. (cells.rules q l).rule;
     left = λ x l. (let e = fe x l in let f = w.left x l in omega (arith, e, f));
@@ -209,8 +238,8 @@ module _ (v : TablesValue) (z : Sizes) (a : AreSizes v z) (usual sets : List ℕ
     );
     checks = (h1.checks, h2.checks);
     values = (v1, v2);
-    usual = usual_most v z a usual sets s rows c1 cells h1;
-    sets = sets_most v z a usual sets s rows c1 cells h1 b;
+    usual = usual_most v z a p usual sets s rows c1 cells h1;
+    sets = sets_most v z a p usual sets s rows c1 cells h1 b;
     bits = byte;
     targets = t.below;
     symbols = λ x. go x (less_or_not x (length symbols));

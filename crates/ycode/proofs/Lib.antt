@@ -8,6 +8,7 @@ pub mod FinderSteps
 pub mod LayoutSteps
 pub mod UsualSteps
 pub mod CellSteps
+pub mod PolicySteps
 pub mod CellLoops
 pub mod ReadSteps
 pub mod SymbolSteps

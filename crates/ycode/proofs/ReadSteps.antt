@@ -1,6 +1,6 @@
 -- What is read of the arrays.
-use Rattle.std.proofs.Common.{ℕ, ◌≡◌, ◌+◌, ◌*◌, ◌/◌, ◌<◌, ◌≤◌, ◌^◌, ◌⊎◌, inl, inr}
-use Rattle.std.proofs.Common.{nat_eq, List, [], length, get_or, sym, ap, ◌∙◌, subst, arith}
+use Rattle.std.proofs.Common.{ℕ, ◌≡◌, ◌+◌, ◌*◌, ◌/◌, ◌<◌, ◌≤◌, ◌^◌, ◌⊎◌, inl, inr, Bool, false}
+use Rattle.std.proofs.Common.{nat_eq, List, [], length, get_or, refl, sym, ap, ◌∙◌, subst, arith}
 use Rattle.std.proofs.Common.{Option, Some, None, is_some, slice_index, if◌then◌else◌, unwrap_or}
 use Rattle.std.proofs.Math.Nat.{mul-le-mul}
 use Rattle.std.proofs.lemmas.List.{get_or_past}
@@ -8,24 +8,34 @@ use Rattle.std.proofs.lemmas.List.FromFn.{length-map-range_with_len, get_or-map-
 use Rattle.ysymbols.specs.Grammar.{most_symbols}
 use Rattle.ybitsets.specs.Limits.{most_states}
 use Rattle.ylalr.specs.Collection.{goto_in}
-use Rattle.ytables.specs.declared.cell.Action.{Action}
-use Rattle.ytables.specs.declared.cell.Action.TheVariants.{Shift, Reduce, Accept, Error}
-use Rattle.ytables.specs.Tables.{TablesValue, action_at, default_at}
+use Rattle.ytables.specs.declared.cell.Action.TheVariants.{Reduce, Error}
+use Rattle.ytables.specs.Tables.{TablesValue}
 use Rattle.yprovenance.specs.Candidates.{shift_in}
 use Rattle.ycode.specs.declared.comb.Comb.{Comb}
 use Rattle.ycode.specs.declared.entry.Entry.{Entry}
+use Rattle.ycode.specs.declared.policy.Policy.{Policy}
 use Rattle.ycode.specs.declared.sizes.Sizes.{Sizes}
 use Rattle.ycode.specs.Bits.{bit_of, SetsValue, IsSets}
-use Rattle.ycode.specs.Cells.{states_of, tokens_of, symbols_of, rules_of, wanted_at, is_refused}
-use Rattle.ycode.specs.Cells.{AreSizes, AreCells, AreSets, Fits, IsUsual, reductions_in, rule_in}
-use Rattle.ycode.specs.Usual.{most_usual}
+use Rattle.ycode.specs.Cells.{wanted_at, refused_at, AreSizes, AreCells, AreSets, IsUsual}
 use Rattle.ycode.specs.Combs.{held, place_of, HasRows, AreAtMost}
 use Rattle.ycode.specs.Entries.{NumbersAtMost, EntriesAtMost}
+use Rattle.ycode.specs.Policies.{act_at, always_at, filled_by, rule_for}
 use Rattle.ycode.specs.Reading.{done_by, is_explicit}
+use Rattle.ycode.specs.States.{states_of, tokens_of, rules_of, symbols_of, reductions_in}
 use Rattle.ycode.specs.Targets.{AreTargets, gotos_over}
+use Rattle.ycode.specs.Usual.{most_usual}
 use Rattle.ycode.proofs.BitSteps.{byte_within}
 use Rattle.ycode.proofs.PackingSteps.{less_or_not}
-use Rattle.ycode.proofs.CellSteps.{done_right, refusal_right, default_right, goto_right, consistent}
+use Rattle.ycode.proofs.CellSteps.{done_right, refusal_right, default_right, goto_right}
+use Rattle.ycode.proofs.PolicySteps.{act_fits, always_rule, rule_fits}
+
+-- what is no token, by a default reduction or none
+none_right : (u : ℕ) (b : Bool) (o : Option ℕ) → b ≡ is_some o →
+    ((r : ℕ) → o ≡ Some r → u ≡ r) →
+    (if b then Reduce u else Error) ≡ filled_by false o Error
+none_right u b None e f = ap (λ (x : Bool). if x then Reduce u else Error) e
+none_right u b (Some r) e f = ap (λ (x : Bool). if x then Reduce u else Error) e ∙
+    ap Reduce (f r refl)
 
 module _ (v : TablesValue) (z : Sizes) (a : AreSizes v z) where
   -- a comb's places are small numbers
@@ -47,59 +57,62 @@ module _ (v : TablesValue) (z : Sizes) (a : AreSizes v z) where
           let m = many in omega (arith, i, s, m)
       go (inr l) = let e = get_or_past c.rows q 0 l in omega (arith, e)
 
-  module _ (usual sets : List ℕ) (s : SetsValue) (rows : List (List Entry)) (c : Comb)
-      (cells : AreCells v (states_of v) usual sets s rows)
+  module _ (p : Policy) (usual sets : List ℕ) (s : SetsValue) (rows : List (List Entry)) (c : Comb)
+      (cells : AreCells p v (states_of v) usual sets s rows)
       (h : HasRows rows (tokens_of v + 1) c) where
     -- the number of a cell
     held_is : (q t : ℕ) → q < states_of v → t < tokens_of v →
-        held c q t ≡ wanted_at v (slice_index usual q) q t
+        held c q t ≡ wanted_at p v (slice_index usual q) q t
     held_is q t l m = h.cells q t (let e = cells.counts.2 in omega (arith, e, l))
         (omega (arith, m)) ∙ cells.entries q t l m
 
     -- what is no token
-    pub none_is : (q : ℕ) → q < states_of v → default_at v q ≡ None →
+    pub none_is : (q : ℕ) → q < states_of v →
         done_by (states_of v) (rules_of v) (slice_index usual q)
         (bit_of s.bytes (slice_index sets q * s.span) (tokens_of v)) (held c q (tokens_of v)) ≡
-        Error
-    none_is q l d =
+        filled_by false (rule_for p v q) Error
+    none_is q l =
         ap (done_by (states_of v) (rules_of v) (slice_index usual q)
         (bit_of s.bytes (slice_index sets q * s.span) (tokens_of v)))
         (h.cells q (tokens_of v) (let e = cells.counts.2 in omega (arith, e, l)) (omega arith)
         ∙ cells.none q l)
-        ∙ ap (λ b. if b then Reduce (slice_index usual q) else Error) ((cells.members q l).none d)
+        ∙ none_right (slice_index usual q)
+        (bit_of s.bytes (slice_index sets q * s.span) (tokens_of v)) (rule_for p v q)
+        (cells.members q l).none (cells.rules q l).default
 
     some : 0 < rules_of v
     some = let e = a.rules in let p = a.some_rules in omega (arith, e, p)
 
     pub action_is : (q t : ℕ) → q < states_of v → t < tokens_of v →
         done_by (states_of v) (rules_of v) (slice_index usual q)
-        (bit_of s.bytes (slice_index sets q * s.span) t) (held c q t) ≡ action_at v q t
+        (bit_of s.bytes (slice_index sets q * s.span) t) (held c q t) ≡ act_at p v q t
     action_is q t l m =
         ap (done_by (states_of v) (rules_of v) (slice_index usual q)
         (bit_of s.bytes (slice_index sets q * s.span) t)) (held_is q t l m)
-        ∙ done_right (states_of v) (rules_of v) (slice_index usual q) (is_refused v q t)
-        (bit_of s.bytes (slice_index sets q * s.span) t) (action_at v q t) some (a.actions q t l m)
+        ∙ done_right (states_of v) (rules_of v) (slice_index usual q) (refused_at p v q t)
+        (bit_of s.bytes (slice_index sets q * s.span) t) (act_at p v q t) some
+        (act_fits v z a q l p t m)
         ((cells.members q l).members t m)
 
     pub refusal_is : (q t : ℕ) → q < states_of v → t < tokens_of v →
-        is_explicit (states_of v + rules_of v) (held c q t) ≡ is_refused v q t
+        is_explicit (states_of v + rules_of v) (held c q t) ≡ refused_at p v q t
     refusal_is q t l m =
         ap (is_explicit (states_of v + rules_of v)) (held_is q t l m)
         ∙ refusal_right (states_of v) (rules_of v) (slice_index usual q)
-        (is_some (shift_in v.built q t)) (action_at v q t) some (a.actions q t l m)
+        (is_some (shift_in v.built q t)) (act_at p v q t) some (act_fits v z a q l p t m)
 
     pub default_is : (q : ℕ) → q < states_of v →
         (if nat_eq (slice_index sets q) 0 then Some (slice_index usual q) else None) ≡
-        default_at v q
-    default_is q l = default_right (default_at v q) (slice_index sets q) (slice_index usual q)
-        (cells.members q l).zero (cells.rules q l).default
+        always_at p v q
+    default_is q l = default_right (always_at p v q) (slice_index sets q) (slice_index usual q)
+        (cells.members q l).zero (λ r e. (cells.rules q l).default r (always_rule p v q r e))
 
     pub action_inside : (q t : ℕ) → q < states_of v → t ≤ tokens_of v →
         place_of c q t < length c.checks
     action_inside q t l m = h.inside q t (let e = cells.counts.2 in omega (arith, e, l))
         (omega (arith, m))
 
-    pub bits_inside : AreSets v (states_of v) s → IsSets s → (q t : ℕ) → q < states_of v →
+    pub bits_inside : AreSets p v (states_of v) s → IsSets s → (q t : ℕ) → q < states_of v →
         t ≤ tokens_of v → slice_index sets q * s.span + t / 8 < length s.bytes
     bits_inside b i q t l m =
         let e = i.sized in
@@ -124,7 +137,7 @@ module _ (v : TablesValue) (z : Sizes) (a : AreSizes v z) where
         (let r = (cells.rules q (let e = cells.counts.0 in omega (arith, e, l))).rule in
         omega (arith, r)))
 
-    pub sets_most : AreSets v (states_of v) s → AreAtMost (states_of v) sets
+    pub sets_most : AreSets p v (states_of v) s → AreAtMost (states_of v) sets
     sets_most b q = inside_or_zero sets (states_of v) q (λ l.
         (let r = (cells.members q (let e = cells.counts.1 in omega (arith, e, l))).number in
         let f = b.few in omega (arith, r, f)))
@@ -177,45 +190,22 @@ module _ (v : TablesValue) (z : Sizes) (a : AreSizes v z) where
             (sym (get_or_past rows q [] (let e = t.states in omega (arith, e, l))))
             (λ i k e. (let f : None ≡ Some k = e in absurd (cc)))
 
--- the usual rule of a consistent state, and of another
-module _ (v : TablesValue) (z : Sizes) (a : AreSizes v z) (q r : ℕ) where
-  pub usual_default : q < states_of v → default_at v q ≡ Some r → IsUsual v q r
+-- the usual rule of a state that reduces by default, and of another
+module _ (p : Policy) (v : TablesValue) (z : Sizes) (a : AreSizes v z) (q r : ℕ) where
+  pub usual_default : q < states_of v → rule_for p v q ≡ Some r → IsUsual p v q r
   usual_default l e = record {
-    rule = (subst (Fits (states_of v) (rules_of v)) (consistent v q 0 r e) (a.actions q 0 l
-        (let p = a.some_tokens in let t = a.tokens in omega (arith, p, t)))).1;
+    rule = (rule_fits v z a q l p r e).1;
     default = λ s f. (let g : Some r ≡ Some s = sym e ∙ f in cc);
     is = ap (λ (o : Option ℕ). unwrap_or o (most_usual (reductions_in v q))) (sym e);
   }
 
-  pub usual_other : r < rules_of v → default_at v q ≡ None →
-      r ≡ most_usual (reductions_in v q) → IsUsual v q r
+  pub usual_other : r < rules_of v → rule_for p v q ≡ None →
+      r ≡ most_usual (reductions_in v q) → IsUsual p v q r
   usual_other l e m = record {
     rule = l;
     default = λ s f. (let g : None ≡ Some s = sym e ∙ f in cc);
     is = m ∙ ap (λ (o : Option ℕ). unwrap_or o (most_usual (reductions_in v q))) (sym e);
   }
-
-  -- what its cells reduce by are rules
-  pub reduction_below : q < states_of v → (t n : ℕ) →
-      get_or (reductions_in v q) t None ≡ Some n → n < rules_of v
-  reduction_below l t n e = go (less_or_not t (tokens_of v))
-    where
-      len : length (reductions_in v q) ≡ tokens_of v
-      len = length-map-range_with_len (λ (x : ℕ). rule_in (action_at v q x)) 0 (tokens_of v)
-
-      reduced : (x : Action) → Fits (states_of v) (rules_of v) x → rule_in x ≡ Some n →
-          n < rules_of v
-      reduced (Shift k) f h = cc
-      reduced (Reduce k) f h = let z : k ≡ n = cc in let m = f.1 in omega (arith, z, m)
-      reduced Accept f h = cc
-      reduced Error f h = cc
-
-      go : (t < tokens_of v) ⊎ (tokens_of v ≤ t) → n < rules_of v
-      go (inl m) = reduced (action_at v q t) (a.actions q t l m)
-          (sym (get_or-map-range_with_len (λ (x : ℕ). rule_in (action_at v q x)) 0 (tokens_of v) t t
-          None m (omega arith)) ∙ e)
-      go (inr m) = let f : None ≡ Some n = sym (get_or_past (reductions_in v q) t None
-          (omega (arith, len, m))) ∙ e in absurd (cc)
 
 -- the states to which gotos lead
 pub goto_state_below : (v : TablesValue) (z : Sizes) → AreSizes v z → (x : ℕ) →

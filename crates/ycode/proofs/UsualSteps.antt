@@ -2,14 +2,15 @@
 use Rattle.std.proofs.Common.{ℕ, ◌≡◌, ◌≢◌, ◌+◌, ◌<◌, ◌≤◌, ◌⊎◌, inl, inr, Bool, true, false}
 use Rattle.std.proofs.Common.{nat_eq, nat_lt, List, length, get_or, set, take, refl}
 use Rattle.std.proofs.Common.{sym, ap, ◌∙◌, subst, arith, Option, Some, None, unwrap_or}
-use Rattle.std.proofs.Common.{slice_index, replicate}
-use Rattle.std.specs.List.{best_of, range_with_len}
+use Rattle.std.proofs.Common.{slice_index, replicate, cond}
+use Rattle.std.specs.List.{best_of, fold, range_with_len}
 use Rattle.std.proofs.lemmas.Bool.{cases_eq, cases_lt, lt-ltb, le-ltb, eq-eqb, ne_eqb}
 use Rattle.std.proofs.lemmas.List.{get_or_past, get_or-set_same, get_or-set_other}
 use Rattle.std.proofs.lemmas.List.FromFn.{length-range_with_len, get_or-range_with_len}
 use Rattle.std.proofs.lemmas.List.MinMax.{best_of_keeps, best_of_takes}
-use Rattle.std.proofs.lemmas.List.Sums.{count_by_more_yes, count_by_more_no}
+use Rattle.std.proofs.lemmas.List.Sums.{count_by_more_yes, count_by_more_no, fold_push}
 use Rattle.std.proofs.lemmas.List.{take_all, get_or-replicate, length-replicate}
+use Rattle.ycode.proofs.ListSteps.{range_more}
 use Rattle.ycode.specs.Usual.{has_value, count_of, rank_at, usual_place, most_usual}
 
 abbrev Values : Type 0
@@ -152,6 +153,18 @@ best_of_all xs i usual rank l b = b.value ∙
     ap (λ (r : List ℕ). unwrap_or (get_or xs (best_of (beats xs) (length xs) r) None) 0)
     (take_all i (range_with_len 0 (length xs))
     (let e = length-range_with_len 0 (length xs) in omega (arith, e, l)))
+
+-- the place of the greatest number, with one number more
+pub greatest_more : (ns : List ℕ) (n old new : ℕ) →
+    old ≡ best_of (λ i best. nat_lt (slice_index ns best) (slice_index ns i)) 0 (range_with_len 0 n) →
+    new ≡ cond (nat_lt (slice_index ns old) (slice_index ns n)) n old →
+    new ≡ best_of (λ i best. nat_lt (slice_index ns best) (slice_index ns i)) 0
+    (range_with_len 0 (n + 1))
+greatest_more ns n old new e h = h ∙ (ap (λ (b : ℕ). step b n) e ∙
+    sym (ap (fold step 0) (range_more n) ∙ fold_push step 0 (range_with_len 0 n) n))
+  where
+    step : ℕ → ℕ → ℕ
+    step b x = cond (nat_lt (slice_index ns b) (slice_index ns x)) x b
 
 -- no place has been counted
 pub zeros : (b n : ℕ) → slice_index (replicate b 0) n ≡ 0

@@ -9,6 +9,7 @@ use Rattle.ytables.specs.Tables.{TablesValue}
 use Rattle.ycode.specs.declared.code.Code.{Code}
 use Rattle.ycode.specs.declared.comb.Comb.{Comb}
 use Rattle.ycode.specs.declared.entry.Entry.{Entry}
+use Rattle.ycode.specs.declared.policy.Policy.{Policy}
 use Rattle.ycode.specs.Bits.{SetsValue}
 use Rattle.ycode.specs.Cells.{states_of, tokens_of, symbols_of, rules_of, wanted_at, usual_rule}
 use Rattle.ycode.specs.Cells.{set_number, sets_to, AreCells, AreSets}
@@ -19,22 +20,22 @@ use Rattle.ycode.specs.Targets.{AreTargets, usual_targets, goto_entries}
 use Rattle.ycode.specs.Translation.{tokens_for}
 use Rattle.ycode.specs.Whole.{code_for, action_rows, goto_rows, states_in}
 
-module _ (v : TablesValue) (usual sets : List ℕ) (s : SetsValue) (rows : List (List Entry))
-    (cells : AreCells v (states_of v) usual sets s rows) where
-  usual_is : usual ≡ map (usual_rule v) (states_in v)
-  usual_is = fill_by_all (usual_rule v) usual (states_of v) 0 cells.counts.0
+module _ (p : Policy) (v : TablesValue) (usual sets : List ℕ) (s : SetsValue) (rows : List (List Entry))
+    (cells : AreCells p v (states_of v) usual sets s rows) where
+  usual_is : usual ≡ map (usual_rule p v) (states_in v)
+  usual_is = fill_by_all (usual_rule p v) usual (states_of v) 0 cells.counts.0
       (λ q l. (cells.rules q l).is)
 
-  sets_are : sets ≡ map (λ q. set_number v (sets_to v (q + 1)) q) (states_in v)
-  sets_are = fill_by_all (λ q. set_number v (sets_to v (q + 1)) q) sets (states_of v) 0
+  sets_are : sets ≡ map (λ q. set_number p v (sets_to p v (q + 1)) q) (states_in v)
+  sets_are = fill_by_all (λ q. set_number p v (sets_to p v (q + 1)) q) sets (states_of v) 0
       cells.counts.1 cells.numbers
 
-  rows_are : rows ≡ action_rows v
-  rows_are = fill_by_all (λ q. entries_for (wanted_at v (usual_rule v q) q) (tokens_of v)) rows
+  rows_are : rows ≡ action_rows p v
+  rows_are = fill_by_all (λ q. entries_for (wanted_at p v (usual_rule p v q) q) (tokens_of v)) rows
       (states_of v) [] cells.counts.2 (λ q l. cells.lists q l ∙
-      ap (λ (x : ℕ). entries_for (wanted_at v x q) (tokens_of v)) (cells.rules q l).is)
+      ap (λ (x : ℕ). entries_for (wanted_at p v x q) (tokens_of v)) (cells.rules q l).is)
 
-  module _ (b : AreSets v (states_of v) s) (tu : List ℕ) (trows : List (List Entry))
+  module _ (b : AreSets p v (states_of v) s) (tu : List ℕ) (trows : List (List Entry))
       (t : AreTargets v (states_of v) tu trows) (c1 c2 : Comb)
       (e1 : c1 ≡ comb_for (tokens_of v + 1) rows)
       (e2 : c2 ≡ comb_for (symbols_of v - tokens_of v) trows) (n r k : ℕ) (en : n ≡ states_of v)
@@ -49,13 +50,13 @@ module _ (v : TablesValue) (usual sets : List ℕ) (s : SetsValue) (rows : List 
     trows_are = fill_by_all (goto_entries v (usual_targets v)) trows (states_of v) [] t.states
         (λ q l. t.lists q l ∙ ap (λ (u : List ℕ). goto_entries v u q) t.targets)
 
-    actions_are : c1 ≡ comb_for (tokens_of v + 1) (action_rows v)
+    actions_are : c1 ≡ comb_for (tokens_of v + 1) (action_rows p v)
     actions_are = e1 ∙ ap (comb_for (tokens_of v + 1)) rows_are
 
     gotos_are : c2 ≡ comb_for (symbols_of v - tokens_of v) (goto_rows v)
     gotos_are = e2 ∙ ap (comb_for (symbols_of v - tokens_of v)) trows_are
 
-    bits_are : s.bytes ≡ (sets_to v (states_of v)).bytes
+    bits_are : s.bytes ≡ (sets_to p v (states_of v)).bytes
     bits_are = ap (λ (x : SetsValue). x.bytes) b.are
 
     lengths_are : lengths ≡ map (λ x. length (body_of v.built.grammar.bare x))
@@ -83,7 +84,7 @@ module _ (v : TablesValue) (usual sets : List ℕ) (s : SetsValue) (rows : List 
       lengths = lengths;
       lefts = lefts;
       numbers = numbers;
-    } ≡ code_for v
+    } ≡ code_for p v
     unfolding code_for
     code_is = λ i. record {
       states = en i;

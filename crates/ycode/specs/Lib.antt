@@ -5,9 +5,11 @@ pub mod Entries
 pub mod Finder
 pub mod Layout
 pub mod Packing
+pub mod Policies
 pub mod Reading
 pub mod Reads
 pub mod Slots
+pub mod States
 pub mod Symbols
 pub mod Targets
 pub mod Translation

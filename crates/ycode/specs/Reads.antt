@@ -1,29 +1,49 @@
 -- What the arrays of a C parser say, and that nothing is read outside of them.
-use Rattle.std.specs.Prelude.{ℕ, ◌≡◌, ◌≢◌, ◌+◌, ◌*◌, ◌/◌, ◌<◌, ◌≤◌, ◌^◌, Some, None, length}
+use Rattle.std.specs.Prelude.{ℕ, ◌≡◌, ◌≢◌, ◌+◌, ◌*◌, ◌/◌, ◌<◌, ◌≤◌, ◌^◌, true, false, Some, None, length}
 use Rattle.std.specs.Prelude.{slice_get, slice_index}
 use Rattle.ysymbols.specs.Grammar.{left_of, body_of, most_rules, most_symbols}
 use Rattle.ybitsets.specs.Limits.{most_states}
 use Rattle.ylalr.specs.Collection.{goto_in}
-use Rattle.ytables.specs.declared.cell.Action.TheVariants.{Error}
+use Rattle.ytables.specs.declared.cell.Action.TheVariants.{Reduce, Error}
+use Rattle.ytables.specs.Cell.{is_filled}
 use Rattle.ytables.specs.Tables.{TablesValue, action_at, default_at}
 use Rattle.ycode.specs.declared.code.Code.{Code}
-use Rattle.ycode.specs.Cells.{states_of, tokens_of, symbols_of, rules_of, is_refused, Fits}
+use Rattle.ycode.specs.declared.policy.Policy.{Policy}
+use Rattle.ycode.specs.declared.policy.Policy.TheVariants.{Consistent}
+use Rattle.ycode.specs.Cells.{states_of, tokens_of, symbols_of, rules_of, refused_at, Fits}
+use Rattle.ycode.specs.Policies.{act_at, always_at, filled_by, rule_for}
 use Rattle.ycode.specs.Combs.{place_of, AreAtMost}
 use Rattle.ycode.specs.Reading.{read_action, read_default, read_refusal, read_goto, read_token}
 
--- What is read is what the tables say.
-pub record Reads (v : TablesValue) (c : Code) : Type 0 where
+-- What is read without default reductions is each action of the tables.
+pub record IsExact (v : TablesValue) (c : Code) : Type 0 where
+  pub action : (q t : ℕ) → q < states_of v → t < tokens_of v →
+      read_action c q t ≡ action_at v q t
+  pub default : (q : ℕ) → q < states_of v → read_default c q ≡ default_at v q
+  -- what is no token is an error where a token is read
+  pub none : (q : ℕ) → q < states_of v → default_at v q ≡ None →
+      read_action c q (tokens_of v) ≡ Error
+
+-- What is read is what the tables say under a policy of default reductions.
+pub record Reads (p : Policy) (v : TablesValue) (c : Code) : Type 0 where
   pub states : c.states ≡ states_of v
   pub rules : c.rules ≡ rules_of v
   pub tokens : c.tokens ≡ tokens_of v
   pub action : (q t : ℕ) → q < states_of v → t < tokens_of v →
-      read_action c q t ≡ action_at v q t
-  -- what is no token has the number of tokens, and is an error where a token is read
-  pub none : (q : ℕ) → q < states_of v → default_at v q ≡ None →
-      read_action c q (tokens_of v) ≡ Error
-  pub default : (q : ℕ) → q < states_of v → read_default c q ≡ default_at v q
+      read_action c q t ≡ act_at p v q t
+  -- what is no token has the number of tokens, and is an error but for a default reduction
+  pub none : (q : ℕ) → q < states_of v →
+      read_action c q (tokens_of v) ≡ filled_by false (rule_for p v q) Error
+  pub default : (q : ℕ) → q < states_of v → read_default c q ≡ always_at p v q
   pub refusal : (q t : ℕ) → q < states_of v → t < tokens_of v →
-      read_refusal c q t ≡ is_refused v q t
+      read_refusal c q t ≡ refused_at p v q t
+  -- a default reduction takes the place of no shift, no acceptance and no other reduction
+  pub kept : (q t : ℕ) → q < states_of v → t < tokens_of v → is_filled (action_at v q t) ≡ true →
+      read_action c q t ≡ action_at v q t
+  -- what is reduced before a token is read is reduced at each token
+  pub always : (q t r : ℕ) → q < states_of v → t < tokens_of v → read_default c q ≡ Some r →
+      read_action c q t ≡ Reduce r
+  pub exact : p ≡ Consistent → IsExact v c
   pub goto : (q x n : ℕ) → q < states_of v → tokens_of v + x < symbols_of v →
       goto_in v.built q (tokens_of v + x) ≡ Some n → read_goto c q x ≡ n
   pub symbol : (q x n : ℕ) → q < states_of v → x < symbols_of v → goto_in v.built q x ≡ Some n →
@@ -90,8 +110,8 @@ pub record AreSmall (v : TablesValue) (c : Code) : Type 0 where
   pub rules : AreAtMost 255 c.lengths × AreAtMost (symbols_of v) c.lefts
   pub numbers : AreAtMost (tokens_of v) c.numbers
 
--- These are the arrays of the parser by these tables.
-pub record IsCode (v : TablesValue) (c : Code) : Type 0 where
-  pub reads : Reads v c
+-- These are the arrays of the parser by these tables under a policy of default reductions.
+pub record IsCode (p : Policy) (v : TablesValue) (c : Code) : Type 0 where
+  pub reads : Reads p v c
   pub inside : IsInside v c
   pub small : AreSmall v c

@@ -7,6 +7,7 @@ use Rattle.ylalr.specs.Collection.{bare_of, state_of}
 use Rattle.ytables.specs.Tables.{TablesValue}
 use Rattle.ycode.specs.declared.code.Code.{Code}
 use Rattle.ycode.specs.declared.entry.Entry.{Entry}
+use Rattle.ycode.specs.declared.policy.Policy.{Policy}
 use Rattle.ycode.specs.Cells.{states_of, tokens_of, symbols_of, rules_of, span_of, wanted_at}
 use Rattle.ycode.specs.Cells.{usual_rule, set_number, sets_to}
 use Rattle.ycode.specs.Entries.{entries_for}
@@ -24,24 +25,24 @@ abbrev pub rules_in : TablesValue → List ℕ
 rules_in v = range_with_len 0 (rules_of v)
 
 -- the entries of the actions of each state beside its usual reduction
-abbrev pub action_rows : TablesValue → List (List Entry)
-action_rows v = map (λ q. entries_for (wanted_at v (usual_rule v q) q) (tokens_of v)) (states_in v)
+abbrev pub action_rows : Policy → TablesValue → List (List Entry)
+action_rows p v = map (λ q. entries_for (wanted_at p v (usual_rule p v q) q) (tokens_of v)) (states_in v)
 
 -- the entries of the gotos of each state beside the usual targets
 abbrev pub goto_rows : TablesValue → List (List Entry)
 goto_rows v = map (goto_entries v (usual_targets v)) (states_in v)
 
--- the arrays of the parser by these tables
-unfoldable pub code_for : TablesValue → Code
-code_for v = record {
+-- the arrays of the parser by these tables under a policy of default reductions
+unfoldable pub code_for : Policy → TablesValue → Code
+code_for p v = record {
   states = states_of v;
   rules = rules_of v;
   tokens = tokens_of v;
-  actions = comb_for (tokens_of v + 1) (action_rows v);
-  usual = map (usual_rule v) (states_in v);
-  sets = map (λ q. set_number v (sets_to v (q + 1)) q) (states_in v);
+  actions = comb_for (tokens_of v + 1) (action_rows p v);
+  usual = map (usual_rule p v) (states_in v);
+  sets = map (λ q. set_number p v (sets_to p v (q + 1)) q) (states_in v);
   span = span_of v;
-  bits = (sets_to v (states_of v)).bytes;
+  bits = (sets_to p v (states_of v)).bytes;
   gotos = comb_for (symbols_of v - tokens_of v) (goto_rows v);
   targets = usual_targets v;
   symbols = map (λ q. symbol_for (bare_of v.built) (state_of v.built q)) (states_in v);

@@ -1,19 +1,18 @@
 //! The cells of actions: the usual reduction of each state, the tokens at which it is made, and
 //! the explicit entries of all others.
 
-ghost use Rattle.std.specs.Prelude.{ℕ, ◌≡◌, ◌<◌, ◌≤◌, ◌+◌, ◌^◌, length, IfOk, OnOk, IfSome};
-ghost use Rattle.std.specs.Prelude.{None, slice_index_or, false};
-ghost use Rattle.ytables.specs.Cell.{is_reduce};
-ghost use Rattle.ytables.specs.Tables.{action_at};
+ghost use Rattle.std.specs.Prelude.{ℕ, ◌≡◌, ◌<◌, ◌≤◌, ◌+◌, IfOk, OnOk, IfSome, None};
 ghost use Rattle.ycode.specs.Bits.{KeepsSets, AreListed};
-ghost use Rattle.ycode.specs.Cells.{Fits, number_for, wanted_at, is_refused, IsUsual, IsSetOf};
-ghost use Rattle.ycode.specs.Cells.{AreCells, AreSets, AreSizes, states_of, tokens_of, rules_of};
-ghost use Rattle.ycode.specs.Cells.{rule_in, reductions_in, with_set_in, set_number};
+ghost use Rattle.ycode.specs.Cells.{number_for, wanted_at, members_in, IsUsual, IsSetOf};
+ghost use Rattle.ycode.specs.Cells.{AreCells, AreSets, AreSizes, with_set_in, set_number};
+ghost use Rattle.ycode.specs.Entries.{entry_at, entries_for, EntriesAtMost};
+ghost use Rattle.ycode.specs.Policies.{rule_for};
+ghost use Rattle.ycode.specs.States.{Fits, states_of, tokens_of, rules_of};
 ghost use Rattle.ysymbols.specs.Grammar.{most_rules};
 ghost use Rattle.ybitsets.specs.Limits.{most_states};
-ghost use Rattle.ycode.specs.Entries.{entry_at, entries_for, EntriesAtMost};
 
 use crate::entry::{Entry, push_number};
+use crate::policy::{Policy, act_at, is_always, is_error, reduces_by, reductions_of, rule_of};
 use crate::sets::Sets;
 use crate::sizes::Sizes;
 use crate::usual::most_usual;
@@ -34,38 +33,6 @@ pub struct Cells {
     pub known: Sets,
     /// The entries of each state.
     pub rows: Vec<Sequence<Entry>>,
-}
-
-/// Whether the action reduces by the rule.
-fn reduces_by(action: Action, rule: usize) -> bool
-    ensures { result ≡ is_reduce rule action }
-{
-    match action {
-        Action::Reduce(r) => r == rule,
-        _ => false,
-    }
-}
-
-/// The rule that an action reduces by, where it reduces.
-fn rule_of(action: Action) -> Option<usize>
-    ensures { result ≡ rule_in action }
-{
-    match action {
-        Action::Reduce(r) => Some(r),
-        _ => None,
-    }
-}
-
-/// Whether a cell is an error although its token could be shifted: one that comes of `%nonassoc`.
-fn is_refused(tables: &Tables, q: usize, t: Sym) -> bool
-    requires state { q < states_of tables.now }
-    requires token { t < tokens_of tables.now }
-    ensures { result ≡ is_refused tables.now q t }
-{
-    match tables.action(q, t) {
-        Action::Error => shift_at(tables, q, t).is_some(),
-        _ => false,
-    }
 }
 
 /// The number of an action, where it has one beside the usual reduction.
@@ -98,15 +65,25 @@ fn number_for(sizes: &Sizes, usual: usize, refused: bool, action: Action) -> Opt
 
 /// The number of the cell of state `q` at the token `t`, where it has one beside the usual
 /// reduction.
-fn wanted_at(tables: &Tables, sizes: &Sizes, usual: usize, q: usize, t: Sym) -> Option<usize>
+fn wanted_at(
+    tables: &Tables,
+    sizes: &Sizes,
+    policy: Policy,
+    rule: Option<usize>,
+    usual: usize,
+    q: usize,
+    t: Sym,
+) -> Option<usize>
     requires sizes { AreSizes tables.now sizes.now }
     requires state { q < states_of tables.now }
     requires token { t < tokens_of tables.now }
-    ensures value { result ≡ wanted_at tables.now usual q t }
+    requires rule { rule ≡ rule_for policy tables.now q }
+    ensures value { result ≡ wanted_at policy tables.now usual q t }
     ensures most { IfSome result (λ n. n ≤ states_of tables.now + rules_of tables.now) }
 {
-    let refused = is_refused(tables, q, t);
-    number_for(sizes, usual, refused, tables.action(q, t))
+    let action = act_at(tables, policy, rule, q, t);
+    let refused = is_error(action) && shift_at(tables, q, t).is_some();
+    number_for(sizes, usual, refused, action)
 }
 
 /// The entries of state `q` beside its usual reduction.
@@ -114,51 +91,45 @@ fn entries_of(
     alloc: Global,
     tables: &Tables,
     sizes: &Sizes,
+    policy: Policy,
+    rule: Option<usize>,
     usual: usize,
     q: usize,
 ) -> Result<Sequence<Entry>, AllocError>
     requires sizes { AreSizes tables.now sizes.now }
     requires state { q < states_of tables.now }
+    requires rule { rule ≡ rule_for policy tables.now q }
     ensures entries { IfOk result (λ es. (t : ℕ) → t < tokens_of tables.now
-        → entry_at es t ≡ wanted_at tables.now usual q t) }
+        → entry_at es t ≡ wanted_at policy tables.now usual q t) }
     ensures none { IfOk result (λ es. entry_at es (tokens_of tables.now) ≡ None) }
     ensures most { IfOk result (EntriesAtMost (states_of tables.now + rules_of tables.now)) }
     ensures list { IfOk result (λ es. es
-        ≡ entries_for (wanted_at tables.now usual q) (tokens_of tables.now)) }
+        ≡ entries_for (wanted_at policy tables.now usual q) (tokens_of tables.now)) }
 {
     let mut entries = Sequence::new(alloc);
     for t in 0..sizes.tokens {
-        push_number(&mut entries, t, wanted_at(tables, sizes, usual, q, t))?;
+        let number = wanted_at(tables, sizes, policy, rule, usual, q, t);
+        push_number(&mut entries, t, number)?;
     }
     Ok(entries)
 }
 
-/// For each token the rule that state `q` reduces by at it, where it reduces.
-fn reductions_of(
+/// The rule of the usual reduction of state `q`: the default rule, where it has one, and else the
+/// rule that most of its cells reduce by.
+fn usual_of(
     alloc: Global,
     tables: &Tables,
     sizes: &Sizes,
+    policy: Policy,
+    rule: Option<usize>,
     q: usize,
-) -> Result<Vec<Option<usize>>, AllocError>
+) -> Result<usize, AllocError>
     requires sizes { AreSizes tables.now sizes.now }
     requires state { q < states_of tables.now }
-    ensures { IfOk result (λ v. v.items ≡ reductions_in tables.now q) }
+    requires rule { rule ≡ rule_for policy tables.now q }
+    ensures { IfOk result (IsUsual policy tables.now q) }
 {
-    let mut rules = Vec::with_capacity(alloc, sizes.tokens)?;
-    for t in 0..sizes.tokens {
-        rules.push(rule_of(tables.action(q, t)))?;
-    }
-    Ok(rules)
-}
-
-/// The rule of the usual reduction of state `q`: the default rule, where it has one, and else the
-/// rule that most of its cells reduce by.
-fn usual_of(alloc: Global, tables: &Tables, sizes: &Sizes, q: usize) -> Result<usize, AllocError>
-    requires sizes { AreSizes tables.now sizes.now }
-    requires state { q < states_of tables.now }
-    ensures { IfOk result (IsUsual tables.now q) }
-{
-    if let Some(rule) = tables.default_rule(q) {
+    if let Some(rule) = rule {
         return Ok(rule);
     }
     let rules = reductions_of(alloc, tables, sizes, q)?;
@@ -166,71 +137,82 @@ fn usual_of(alloc: Global, tables: &Tables, sizes: &Sizes, q: usize) -> Result<u
     Ok(rule)
 }
 
-/// For each token whether state `q` reduces by the rule at it.
+/// For each token, and then for what is none, whether state `q` makes its usual reduction at it.
 fn members_of(
     alloc: Global,
     tables: &Tables,
     sizes: &Sizes,
-    rule: usize,
+    policy: Policy,
+    rule: Option<usize>,
+    usual: usize,
     q: usize,
 ) -> Result<Vec<bool>, AllocError>
     requires sizes { AreSizes tables.now sizes.now }
     requires state { q < states_of tables.now }
-    ensures len { IfOk result (λ v. length v.items ≡ tokens_of tables.now) }
-    ensures members { IfOk result (λ v. (t : ℕ) → t < tokens_of tables.now
-        → slice_index_or v.items t false ≡ is_reduce rule (action_at tables.now q t)) }
+    requires rule { rule ≡ rule_for policy tables.now q }
+    requires usual { IsUsual policy tables.now q usual }
+    ensures { IfOk result (λ v. v.items ≡ members_in policy tables.now q) }
 {
-    let mut members = Vec::with_capacity(alloc, sizes.tokens)?;
+    let mut members = Vec::with_capacity(alloc, sizes.tokens + 1)?;
     for t in 0..sizes.tokens {
-        members.push(reduces_by(tables.action(q, t), rule))?;
+        members.push(reduces_by(act_at(tables, policy, rule, q, t), usual))?;
     }
+    members.push(rule.is_some())?;
     Ok(members)
 }
 
-/// The number of the set of tokens at which state `q` makes its usual reduction: set 0 where the
-/// state is consistent.
-#[tactic(auto, using(crate::proofs::CellLoops::set_zero, crate::proofs::CellLoops::set_other))]
+/// The number of the set of tokens at which state `q` makes its usual reduction: set 0 where it
+/// does so at each.
 fn set_of(
     alloc: Global,
     tables: &Tables,
     sizes: &Sizes,
+    policy: Policy,
+    rule: Option<usize>,
     usual: usize,
     q: usize,
     sets: &mut Sets,
 ) -> Result<usize, AllocError>
     requires sizes { AreSizes tables.now sizes.now }
     requires state { q < states_of tables.now }
-    requires usual { IsUsual tables.now q usual }
-    requires sets { AreSets tables.now q sets.old }
-    ensures set { IfOk result (IsSetOf tables.now q usual sets.new) }
+    requires rule { rule ≡ rule_for policy tables.now q }
+    requires usual { IsUsual policy tables.now q usual }
+    requires sets { AreSets policy tables.now q sets.old }
+    ensures set { IfOk result (IsSetOf policy tables.now q usual sets.new) }
     ensures keeps { OnOk result (KeepsSets sets.old sets.new) }
     ensures listed { OnOk result (AreListed sets.new) }
-    ensures exact { OnOk result (sets.new ≡ with_set_in tables.now sets.old q) }
-    ensures number { IfOk result (λ n. n ≡ set_number tables.now sets.new q) }
+    ensures exact { OnOk result (sets.new ≡ with_set_in policy tables.now sets.old q) }
+    ensures number { IfOk result (λ n. n ≡ set_number policy tables.now sets.new q) }
 {
-    if tables.default_rule(q).is_some() {
+    if is_always(tables, sizes, policy, rule, q) {
         return Ok(0);
     }
-    let members = members_of(alloc, tables, sizes, usual, q)?;
+    let members = members_of(alloc, tables, sizes, policy, rule, usual, q)?;
     let n = sets.put(alloc, &members)?;
     Ok(n)
 }
 
 /// The cells of all states.
-pub fn all_cells(alloc: Global, tables: &Tables, sizes: &Sizes) -> Result<Cells, AllocError>
+pub fn all_cells(
+    alloc: Global,
+    tables: &Tables,
+    sizes: &Sizes,
+    policy: Policy,
+) -> Result<Cells, AllocError>
     requires { AreSizes tables.now sizes.now }
-    ensures cells { IfOk result (λ c. AreCells tables.now (states_of tables.now) c.usual.items
-        c.sets.items c.known c.rows.items) }
-    ensures sets { IfOk result (λ c. AreSets tables.now (states_of tables.now) c.known) }
+    ensures cells { IfOk result (λ c. AreCells policy tables.now (states_of tables.now)
+        c.usual.items c.sets.items c.known c.rows.items) }
+    ensures sets { IfOk result (λ c. AreSets policy tables.now (states_of tables.now) c.known) }
 {
     let mut known = Sets::new(alloc, sizes.tokens + 1)?;
     let mut usual = Vec::with_capacity(alloc, sizes.states)?;
     let mut sets = Vec::with_capacity(alloc, sizes.states)?;
     let mut rows = Vec::with_capacity(alloc, sizes.states)?;
     for q in 0..sizes.states {
-        let rule = usual_of(alloc, tables, sizes, q)?;
-        let set = set_of(alloc, tables, sizes, rule, q, &mut known)?;
-        let entries = entries_of(alloc, tables, sizes, rule, q)?;
+        let default = rule_of(alloc, tables, sizes, policy, q)?;
+        let rule = usual_of(alloc, tables, sizes, policy, default, q)?;
+        let set = set_of(alloc, tables, sizes, policy, default, rule, q, &mut known)?;
+        let entries = entries_of(alloc, tables, sizes, policy, default, rule, q)?;
         usual.push(rule)?;
         sets.push(set)?;
         rows.push(entries)?;

@@ -7,6 +7,7 @@ ghost use Rattle.ycode.specs.Whole.{code_for};
 use crate::cells::all_cells;
 use crate::comb::{Comb, comb_of};
 use crate::numbers::Numbers;
+use crate::policy::Policy;
 use crate::rules::{lefts_of, lengths_of};
 use crate::sizes::sizes_of;
 use crate::symbols::symbols_of;
@@ -31,8 +32,8 @@ pub struct Code {
     /// The rule of each state's usual reduction, which is made where a cell has no number and the
     /// token is in a set.
     pub usual: Numbers,
-    /// The number of this set for each state. Set 0 has all tokens: the state is consistent, and
-    /// reduces before a token is read.
+    /// The number of this set for each state. Set 0 has all tokens: the state reduces by this rule
+    /// at each, and so before a token is read.
     pub sets: Numbers,
     /// How many bytes a set has.
     pub span: usize,
@@ -52,19 +53,19 @@ pub struct Code {
     pub numbers: Numbers,
 }
 
-/// The arrays of the parser by these tables: the numbers in them say what the tables say, each
-/// index that is formed lies in its array, and each number is small. Equal tables have equal arrays.
-/// It fails only when memory runs out.
-pub fn code_of(alloc: Global, tables: &Tables) -> Result<Code, AllocError>
-    ensures says { IfOk result (IsCode tables.now) }
-    ensures value { IfOk result (λ c. c ≡ code_for tables.now) }
+/// The arrays of the parser by these tables under a policy of default reductions: the numbers in
+/// them say what the tables say, each index that is formed lies in its array, and each number is
+/// small. Equal tables have equal arrays. It fails only when memory runs out.
+pub fn code_of(alloc: Global, tables: &Tables, policy: Policy) -> Result<Code, AllocError>
+    ensures says { IfOk result (IsCode policy tables.now) }
+    ensures value { IfOk result (λ c. c ≡ code_for policy tables.now) }
 {
     let sizes = sizes_of(tables);
     let automaton = tables.automaton();
     let _guide = automaton.states();
     let grammar = automaton.grammar();
     let _well_formed = grammar.symbols();
-    let cells = all_cells(alloc, tables, &sizes)?;
+    let cells = all_cells(alloc, tables, &sizes, policy)?;
     let targets = all_targets(alloc, tables, &sizes)?;
     Ok(Code {
         states: sizes.states,

@@ -1,7 +1,8 @@
 //! The most usual of some values.
 
 ghost use Rattle.std.specs.Prelude.{ℕ, ◌≡◌, ◌<◌, ◌≤◌, Some, None, IfOk, slice_index_or};
-ghost use Rattle.ycode.specs.Usual.{most_usual};
+ghost use Rattle.ycode.specs.Usual.{commonest, counts_in, greatest_place, most_usual};
+ghost use Rattle.ycode.specs.Usual.{where_some};
 
 use std::alloc::{AllocError, Global};
 
@@ -28,4 +29,60 @@ pub fn most_usual(
         }
     }
     Ok(usual)
+}
+
+/// How many places have each value below `bound`.
+fn counts_of(
+    alloc: Global,
+    values: &[Option<usize>],
+    bound: usize,
+) -> Result<Vec<usize>, AllocError>
+    requires { (i n : ℕ) → slice_index_or values.now i None ≡ Some n → n < bound }
+    ensures { IfOk result (λ v. v.items ≡ counts_in bound values.now) }
+{
+    let mut counts: Vec<usize> = vec![in alloc; 0; bound]?;
+    for i in 0..values.len() {
+        if let Some(n) = values[i] {
+            counts[n] += 1;
+        }
+    }
+    Ok(counts)
+}
+
+/// The place of the greatest number, the first of equals.
+fn greatest_place(numbers: &[usize]) -> usize
+    ensures { result ≡ greatest_place numbers.now }
+{
+    let mut best = 0;
+    for i in 0..numbers.len() {
+        if numbers[best] < numbers[i] {
+            best = i;
+        }
+    }
+    best
+}
+
+/// The place, where a number other than 0 stands there.
+fn where_some(numbers: &[usize], k: usize) -> Option<usize>
+    ensures { result ≡ where_some numbers.now k }
+{
+    if k < numbers.len() && 0 < numbers[k] {
+        Some(k)
+    } else {
+        None
+    }
+}
+
+/// The value that most places have, the least of equals, where a place has one. Each is below
+/// `bound`.
+pub fn commonest(
+    alloc: Global,
+    values: &[Option<usize>],
+    bound: usize,
+) -> Result<Option<usize>, AllocError>
+    requires { (i n : ℕ) → slice_index_or values.now i None ≡ Some n → n < bound }
+    ensures { IfOk result (λ o. o ≡ commonest bound values.now) }
+{
+    let counts = counts_of(alloc, values, bound)?;
+    Ok(where_some(&counts, greatest_place(&counts)))
 }

@@ -5,6 +5,7 @@ use Rattle.ylalr.proofs.OneCollection.{one_collection}
 use Rattle.ytables.specs.Tables.{TablesValue}
 use Rattle.ygenerate.specs.Sources.{AreTablesOf}
 use Rattle.ycode.specs.declared.code.Code.{Code}
+use Rattle.ycode.specs.declared.policy.Policy.TheVariants.{Consistent}
 use Rattle.ycode.proofs.OneCode.{one_code}
 use Rattle.yembed.specs.Codes.{IsCodeOf}
 
@@ -16,6 +17,6 @@ one_automaton grammar v w a b = one_collection v.built w.built
 
 -- and so are the arrays
 pub one_parser : (grammar : List ℕ) (c d : Code) → IsCodeOf grammar c → IsCodeOf grammar d → c ≡ d
-one_parser grammar c d x y = x.value ∙ one_code x.tables y.tables
+one_parser grammar c d x y = x.value ∙ one_code Consistent x.tables y.tables
     (one_automaton grammar x.tables y.tables x.are y.are) x.are.cells y.are.cells x.are.guide
     x.are.guides ∙ sym y.value

@@ -3,17 +3,18 @@ use Rattle.std.specs.Prelude.{ℕ, ◌≡◌, ◌<◌, List, []}
 use Rattle.ygenerate.specs.Sources.{AreTablesOf}
 use Rattle.ytables.specs.Tables.{TablesValue}
 use Rattle.ycode.specs.declared.code.Code.{Code}
+use Rattle.ycode.specs.declared.policy.Policy.TheVariants.{Consistent}
 use Rattle.ycode.specs.Reads.{IsCode}
 use Rattle.ycode.specs.Whole.{code_for}
 use Rattle.yembed.specs.declared.codes.Sizes.{Sizes}
 
 -- these are the arrays of the parser by the tables of the grammar that these bytes mean: those that
--- the definition has for these tables, and they say what the tables say
+-- the definition has for these tables without default reductions, and they say what the tables say
 pub record IsCodeOf (grammar : List ℕ) (code : Code) : Type 0 where
   pub tables : TablesValue
   pub are : AreTablesOf grammar tables
-  pub says : IsCode tables code
-  pub value : code ≡ code_for tables
+  pub says : IsCode Consistent tables code
+  pub value : code ≡ code_for Consistent tables
 
 -- the arrays are those of no other parser: whatever arrays a call has for these bytes are these
 abbrev pub IsOnlyCode : List ℕ → Code → Type 0

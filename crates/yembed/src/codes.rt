@@ -7,7 +7,7 @@ ghost use Rattle.yembed.specs.Refusals.{LacksTables};
 use crate::refusal::Refusal;
 use crate::sources::tables_of;
 use std::alloc::Global;
-use ycode::{Code, code_of};
+use ycode::{Code, Policy, code_of};
 
 /// The numbers by which the arrays of a parser are read.
 #[repr(C)]
@@ -23,7 +23,7 @@ pub struct Sizes {
     pub span: usize,
 }
 
-/// The arrays of the parser of a grammar.
+/// The arrays of the parser of a grammar, without default reductions but of consistent states.
 pub(crate) fn arrays_of(alloc: Global, grammar: &[u8]) -> Result<Code, Refusal>
     ensures code { IfOk result (IsCodeOf grammar.now) }
     ensures only { IfOk result (IsOnlyCode grammar.now) }
@@ -33,7 +33,7 @@ pub(crate) fn arrays_of(alloc: Global, grammar: &[u8]) -> Result<Code, Refusal>
         Ok(tables) => tables,
         Err(refusal) => return Err(refusal),
     };
-    let made = code_of(alloc, &tables);
+    let made = code_of(alloc, &tables, Policy::Consistent);
     drop(tables);
     match made {
         Ok(code) => Ok(code),

@@ -1,6 +1,6 @@
 //! The variables of `%define`.
 
-use crate::options::{Errors, Options, Purity, Values};
+use crate::options::{Defaults, Errors, Options, Purity, Values};
 use crate::refusal::Refusal;
 use yforeign::directive::is_word;
 
@@ -22,7 +22,8 @@ enum Variable {
     Tables,
     Push,
     Lac,
-    /// It changes nothing: errors are found where they are without it.
+    Defaults,
+    /// It changes nothing.
     Idle,
 }
 
@@ -44,8 +45,8 @@ const VARIABLES: [(&str, Variable); 23] = [
     ("location_type", Variable::LocationType),
     ("api.header.include", Variable::Include),
     ("lr.type", Variable::Tables),
-    ("lr.default-reduction", Variable::Idle),
-    ("lr.default-reductions", Variable::Idle),
+    ("lr.default-reduction", Variable::Defaults),
+    ("lr.default-reductions", Variable::Defaults),
     ("lr.keep-unreachable-state", Variable::Idle),
     ("lr.keep-unreachable-states", Variable::Idle),
     ("lr.keep_unreachable_states", Variable::Idle),
@@ -94,6 +95,16 @@ fn values(value: &[u8], is_code: bool) -> Result<Values<'_>, Refusal> {
     }
 }
 
+/// Which states reduce by default.
+fn defaults(value: &[u8]) -> Result<Defaults, Refusal> {
+    match value {
+        b"most" => Ok(Defaults::Most),
+        b"sole" => Ok(Defaults::Sole),
+        b"consistent" | b"accepting" => Ok(Defaults::Consistent),
+        _ => Err(Refusal::Value),
+    }
+}
+
 /// Nothing, where a value is this one.
 fn only(value: &[u8], wanted: &str, refusal: Refusal) -> Result<(), Refusal> {
     if value == wanted.as_bytes() {
@@ -138,6 +149,7 @@ impl<'a> Options<'a> {
                     only(value, "none", Refusal::Value)?;
                 }
             }
+            Variable::Defaults => self.defaults = defaults(value)?,
             Variable::Idle => {}
         }
         Ok(())

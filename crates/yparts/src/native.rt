@@ -143,6 +143,7 @@ pub fn parts_of<'a>(
     }
     let actions = mem::replace(&mut gather.actions, Vec::new(alloc));
     gather.parts.set_actions(grammar, &actions)?;
+    gather.parts.options.is_profile = true;
     let empty = Parts::new(alloc, 0)?;
     Ok(mem::replace(&mut gather.parts, empty))
 }

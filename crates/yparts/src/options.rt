@@ -46,6 +46,19 @@ pub enum Header<'a> {
     At(&'a [u8]),
 }
 
+/// Which states reduce by default, at tokens that are none of theirs.
+#[derive(Clone, Copy, PartialEq, Eq)]
+pub enum Defaults {
+    /// Nothing is said of it.
+    Unsaid,
+    /// bison's: by the commonest reduction.
+    Most,
+    /// byacc's: by the one reduction of a state.
+    Sole,
+    /// States that reduce by one rule at every token.
+    Consistent,
+}
+
 /// What a file wishes of its parser as a whole.
 #[derive(Clone, Copy)]
 pub struct Options<'a> {
@@ -91,6 +104,10 @@ pub struct Options<'a> {
     pub include: Option<&'a [u8]>,
     /// Whether `parse.lac` asks to look ahead before an error.
     pub lac: bool,
+    /// `lr.default-reduction`.
+    pub defaults: Defaults,
+    /// Whether the file is one that `yacc` reads as it is.
+    pub is_profile: bool,
 }
 
 impl Options<'_> {
@@ -118,6 +135,8 @@ impl Options<'_> {
             location_type: None,
             include: None,
             lac: false,
+            defaults: Defaults::Unsaid,
+            is_profile: false,
         }
     }
 }

@@ -1,7 +1,7 @@
 //! The fixed texts in C that tell of an error which tokens could come.
 
-/// What stands before the names of tokens in texts.
-pub const TEXTS: &str = r##"
+/// How a parser tries tokens on a copy of its stack.
+pub const WAYS: &str = r##"
 /* As many states a list of tokens that could come goes on beyond the stack. */
 #ifndef YYLOOKDEPTH
 # define YYLOOKDEPTH 200
@@ -52,6 +52,59 @@ yydoes (int yystate, int yytoken)
 }
 
 @if lists
+@else
+/* Whether a token could come: after all reductions before it, it would be shifted. */
+static int
+yycan_come (const yystate_number *yyssp, int yytoken)
+{
+  yyway yywayd;
+  int yystate = *yyssp;
+  int yyn;
+  yywayd.yybelow = yyssp;
+  yywayd.yyup = 0;
+  for (;;)
+    {
+      yyn = yydoes (yystate, yytoken) - YYNSTATES;
+      if (yyn <= 0 || yyn == YYNRULES)
+        return yyn != YYNRULES;
+      yystate = yygo (&yywayd, yyn);
+      if (yystate < 0)
+        return 1;
+    }
+}
+
+@if lac
+/* Before the first action on a token: it is an error where the token can't be shifted after all
+   that would be reduced before it. */
+#define YYLOOK \
+  do { \
+    if (!yylooked) \
+      { \
+        yylooked = 1; \
+        if (!yycan_come (yyssp, YY_CAST (int, yytoken))) \
+          goto yyerrlab; \
+      } \
+  } while (0)
+@end
+@end
+"##;
+
+/// Which tokens could come.
+pub const EXPECTED: &str = r##"
+@if rows
+/* Whether a state that an error is found in has a number of its own for a token, or reduces at it
+   by a rule that is not its default one: these are the tokens that bison lists. */
+static int
+yyhas (int yystate, int yytoken)
+{
+  int yyn = yyrow[yystate] + yytoken;
+  if (yycheck[yyn] == yytoken)
+    return yyvalue[yyn] != YYNSTATES + YYNRULES;
+  return YYMEMBER (yystate, yytoken) && !YYMEMBER (yystate, YYNTOKENS);
+}
+
+@end
+@if lists
 /* Whether %nonassoc gives a state an error at a token, which no reduction by default passes. */
 static int
 yyrefuses (int yystate, int yytoken)
@@ -86,33 +139,13 @@ yysees (const yystate_number *yyssp, int yytoken)
 /* Whether a token stands in the list that bison writes in a state: one for which the state has
    more than its most usual reduction. */
 static int
-yycan_come (int yystate, int yytoken)
+yyhas (int yystate, int yytoken)
 {
   int yyn = yydoes (yystate, yytoken) - YYNSTATES;
   return yyn != YYNRULES && (yyn <= 0 || yyn != YY_CAST (int, yydefault[yystate]));
 }
-@else
-/* Whether a token could come: after all reductions before it, it would be shifted. */
-static int
-yycan_come (const yystate_number *yyssp, int yytoken)
-{
-  yyway yywayd;
-  int yystate = *yyssp;
-  int yyn;
-  yywayd.yybelow = yyssp;
-  yywayd.yyup = 0;
-  for (;;)
-    {
-      yyn = yydoes (yystate, yytoken) - YYNSTATES;
-      if (yyn <= 0 || yyn == YYNRULES)
-        return yyn != YYNRULES;
-      yystate = yygo (&yywayd, yyn);
-      if (yystate < 0)
-        return 1;
-    }
-}
-@end
 
+@end
 /* Notes up to so many tokens that could come in place of a wrong one, none where there are more,
    and gives their number; without a place for them it counts them all. */
 static int
@@ -120,6 +153,10 @@ yyexpected (const yystate_number *yyssp, int yywrong, int *yytokens, int yymost)
 {
   int yycount = 0;
   int yytoken;
+@if rows
+  int yystate = *yyssp;
+  (void) yywrong;
+@else
 @if lists
   int yystate = yysees (yyssp, yywrong);
   if (yystate < 0)
@@ -127,11 +164,16 @@ yyexpected (const yystate_number *yyssp, int yywrong, int *yytokens, int yymost)
 @else
   (void) yywrong;
 @end
+@end
   for (yytoken = 0; yytoken < YYNTOKENS; ++yytoken)
+@if rows
+    if (yytoken != YYERRTOKEN && yyhas (yystate, yytoken))
+@else
 @if lists
-    if (yytoken != YYERRTOKEN && yycan_come (yystate, yytoken))
+    if (yytoken != YYERRTOKEN && yyhas (yystate, yytoken))
 @else
     if (yytoken != YYERRTOKEN && yycan_come (yyssp, yytoken))
+@end
 @end
       {
         if (yytokens)

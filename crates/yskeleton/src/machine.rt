@@ -30,8 +30,11 @@ YYPARSE_DECL()
   /* Where an error begins and ends. */
   YYLTYPE yyerror_range[3];
 @if bison
+@if most
+@else
   /* How deep the stack is where its top is an `error` that stands for what is discarded too. */
   size_t yyerrdepth = 0;
+@end
 @end
 @end
   size_t yydepth = YYINITDEPTH;
@@ -43,6 +46,10 @@ YYPARSE_DECL()
   unsigned yyn;
   /* While an action runs, how many symbols its rule has. */
   unsigned yym = 0;
+@if lac
+  /* Whether it is known that the token can be shifted after what is reduced before it. */
+  int yylooked = 0;
+@end
   int yyresult;
 
 #if YYDEBUG
@@ -114,6 +121,7 @@ yyloop:
       yyn = yyusual[yystate];
       if (yyn == 0 || !YYMEMBER (yystate, yytoken))
         goto yyerrlab;
+@lac       YYLOOK;
       goto yyreduce;
     }
   yyn = yyvalue[yyn];
@@ -123,7 +131,14 @@ yyloop:
       if (yyn == YYNRULES)
         goto yyerrlab;
       if (yyn != 0)
+@if lac
+        {
+          YYLOOK;
+          goto yyreduce;
+        }
+@else
         goto yyreduce;
+@end
 @if bison
       /* The end is an entry of bison's stack. */
       if (yyssp + 1 == yysslast && yydepth >= YYMAXDEPTH)
@@ -138,6 +153,7 @@ yyloop:
   if (yyerrflag > 0)
     --yyerrflag;
   yychar = YYNOTOKEN;
+@lac   yylooked = 0;
   yystate = yyn;
   *++yyvsp = yylval;
 @locations   *++yylsp = yylloc;
@@ -255,6 +271,8 @@ yyerrlab:
       YYSTEP ('d', yychar);
 @if locations
 @if bison
+@if most
+@else
       if (yyerrdepth == YY_CAST (size_t, yyssp - yyss))
         {
           yyerror_range[1] = *yylsp;
@@ -263,9 +281,15 @@ yyerrlab:
         }
 @end
 @end
+@end
 @destroys       YYDESTRUCT (YY_CAST (int, yytoken), &yylval, &yylloc);
       yychar = YYNOTOKEN;
+@if most
+      goto yyrecover;
+@else
+@lac       yylooked = 0;
       goto yyloop;
+@end
     }
   YYSTEP ('e', yychar);
   if (yyerrflag == 0)
@@ -346,13 +370,19 @@ yyrecover:
   YYTRACE ((stderr, "%sdebug: state %u, error recovery shifting to state %u\n", YYPREFIX, yystate,
             yyn));
   YYSTEP ('x', YY_CAST (int, yyn));
+@lac   yylooked = 0;
   yystate = yyn;
   *++yyvsp = yylval;
 @if locations
   yyerror_range[2] = yylloc;
   YYLLOC_DEFAULT (yyloc, yyerror_range, 2);
   *++yylsp = yyloc;
-@bison   yyerrdepth = YY_CAST (size_t, yyssp - yyss) + 1;
+@if bison
+@if most
+@else
+  yyerrdepth = YY_CAST (size_t, yyssp - yyss) + 1;
+@end
+@end
 @end
   goto yypush;
 

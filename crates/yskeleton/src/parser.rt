@@ -1,7 +1,9 @@
 //! The text of a parser in C and that of its header, in the order that byacc or bison has.
 
 use crate::actions::Trouble;
-use crate::errors::{CUSTOM, DESTROY_FRONT, MESSAGE, SHOW_END, SHOW_FRONT, SWITCH_END, TEXTS};
+use crate::errors::{
+    CUSTOM, DESTROY_FRONT, EXPECTED, MESSAGE, SHOW_END, SHOW_FRONT, SWITCH_END, WAYS,
+};
 use crate::machine::{BEGIN, END, MACHINE};
 use crate::skeleton::Skeleton;
 use crate::spoken::SPOKEN;
@@ -158,8 +160,11 @@ impl Skeleton<'_> {
     /// Writes how texts of errors are made.
     fn put_texts(&self, out: &mut Output) {
         let style = self.style;
-        if style.names_tokens() || style.is_custom() || style.wishes.speaks {
-            style.put_fixed(out, TEXTS);
+        if !style.has_rows() && (style.asks() || style.looks_ahead()) {
+            style.put_fixed(out, WAYS);
+        }
+        if style.asks() {
+            style.put_fixed(out, EXPECTED);
         }
         if let Some(speech) = self.speech {
             speech.put(out);

@@ -2,6 +2,7 @@
 
 use crate::references::{Dialect, Piece, piece_at};
 use std::alloc::Global;
+use ycode::Policy;
 use yexplain::reads::Made;
 use yparts::options::{Errors, Options, Purity};
 use yparts::parts::{Deed, Parts, Target};
@@ -31,6 +32,8 @@ pub struct Wishes {
     pub lists: bool,
     /// Whether there are messages for errors.
     pub speaks: bool,
+    /// Which states reduce by default.
+    pub policy: Policy,
 }
 
 /// How a parser looks.
@@ -174,9 +177,33 @@ impl<'a> Style<'a> {
         self.errors() == Errors::Custom
     }
 
-    /// Whether tokens that could come are listed as bison lists them.
+    /// Whether a parser reduces by default as bison's does.
+    pub fn is_most(&self) -> bool {
+        matches!(self.wishes.policy, Policy::Most)
+    }
+
+    /// Whether a token is tried before the first action on it.
+    pub fn looks_ahead(&self) -> bool {
+        self.options.lac && self.is_bison()
+    }
+
+    /// Whether tokens that could come are asked for.
+    pub fn asks(&self) -> bool {
+        self.wishes.speaks || self.errors() != Errors::Simple
+    }
+
+    /// Whether these are the tokens of the row of the state that the error is found in: as bison
+    /// has them under the same policy.
+    pub fn has_rows(&self) -> bool {
+        let is_plain = !self.wishes.lists && !self.wishes.speaks;
+        !self.looks_ahead() && (self.is_most() || is_plain)
+    }
+
+    /// Whether they are those that bison would list, of a parser that has not reduced as bison's
+    /// has by default.
     pub fn lists(&self) -> bool {
-        self.wishes.lists && self.errors() != Errors::Simple
+        let is_other = self.is_most() || self.looks_ahead();
+        self.wishes.lists && !is_other && self.errors() != Errors::Simple
     }
 
     /// What the names of tokens begin with.
@@ -210,6 +237,10 @@ impl<'a> Style<'a> {
             "verbose" => self.errors() == Errors::Verbose,
             "custom" => self.is_custom(),
             "lists" => self.lists(),
+            "most" => self.is_most(),
+            "lac" => self.looks_ahead(),
+            "asks" => self.asks(),
+            "rows" => self.has_rows(),
             "speaks" => self.wishes.speaks,
             "names" => self.options.has_names,
             _ => false,

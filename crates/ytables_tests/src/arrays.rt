@@ -4,12 +4,12 @@ use crate::made::tables_of;
 use std::alloc::Global;
 use std::test::Fail;
 use testkit::worked::ONE;
-use ycode::{Code, Comb, Numbers, code_of};
+use ycode::{Code, Comb, Numbers, Policy, code_of};
 
 /// The arrays of a grammar text. An error is any fault of it, or memory ran out.
 fn arrays(alloc: Global, grammar: &[u8]) -> Result<Code, Fail> {
     let tables = tables_of(alloc, grammar)?;
-    Ok(code_of(alloc, &tables)?)
+    Ok(code_of(alloc, &tables, Policy::Consistent)?)
 }
 
 /// Whether an array has these numbers.

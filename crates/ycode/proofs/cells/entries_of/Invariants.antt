@@ -5,8 +5,8 @@ use Rattle.ycode.proofs.cells.entries_of.Given as goal
 
 abbrev pub invariant-loop-t : goal.invariant-loop-t
 invariant-loop-t l = record {
-  entries : (s : ℕ) → s < l.t → entry_at l.entries s ≡ wanted_at l.tables l.usual l.q s;
+  entries : (s : ℕ) → s < l.t → entry_at l.entries s ≡ wanted_at l.policy l.tables l.usual l.q s;
   rest : (s : ℕ) → l.t ≤ s → entry_at l.entries s ≡ None;
   most : EntriesAtMost (states_of l.tables + rules_of l.tables) l.entries;
-  list : l.entries ≡ entries_for (wanted_at l.tables l.usual l.q) l.t;
+  list : l.entries ≡ entries_for (wanted_at l.policy l.tables l.usual l.q) l.t;
 }

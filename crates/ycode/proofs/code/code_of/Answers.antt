@@ -17,6 +17,7 @@ use Rattle.ycode.proofs.code.code_of.Goals as goal
 pub returns : goal.returns
 returns c =
     let v = c.args.tables.now in
+    let p = c.args.policy in
     let z = c.sizes_of-sizes.result in
     let a = c.sizes_of-sizes.ensures in
     let cells = c.in_ok-cells.cells in
@@ -45,7 +46,7 @@ returns c =
     c.in_ok-comb_of.ensures.values (states_of v + rules_of v)
     (subst (λ (rows : List (List Entry)). NumbersAtMost (states_of v + rules_of v) rows)
     (sym c.deref.ensures.value)
-    (values_most v z a cells.usual.items cells.sets.items cells.known cells.rows.items c1 ce h1)) in
+    (values_most v z a p cells.usual.items cells.sets.items cells.known cells.rows.items c1 ce h1)) in
     let v2 : AreAtMost (states_of v) c2.values =
     c.in_ok-comb_of-2.ensures.values (states_of v)
     (subst (λ (rows : List (List Entry)). NumbersAtMost (states_of v) rows)
@@ -96,21 +97,21 @@ returns c =
       c.of-3.ensures ∙ c.into_bytes.ensures,
       c.of-4.ensures,
     ) record {
-      value = code_is v cells.usual.items cells.sets.items cells.known cells.rows.items ce be
+      value = code_is p v cells.usual.items cells.sets.items cells.known cells.rows.items ce be
           tg.usual.items tg.rows.items t c1 c2 e1 e2 z.states z.rules z.tokens a.states a.rules
           a.tokens symbols lengths lefts numbers c.in_ok-symbols_of.ensures.list ll le fl fe ne;
       says = record {
-        reads = reads v z a cells.usual.items cells.sets.items cells.known cells.rows.items c1 ce be i
+        reads = reads p v z a cells.usual.items cells.sets.items cells.known cells.rows.items c1 ce be i
             h1 tg.usual.items tg.rows.items c2 t h2 symbols lengths lefts numbers hs
             c.in_ok-symbols_of.ensures.len c.in_ok-symbols_of.ensures.symbols z.states z.rules
             z.tokens
             a.states a.rules a.tokens le fe tr;
-        inside = inside v z a cells.usual.items cells.sets.items cells.known cells.rows.items c1 ce be
+        inside = inside p v z a cells.usual.items cells.sets.items cells.known cells.rows.items c1 ce be
             i h1 tg.usual.items tg.rows.items c2 t h2 symbols lengths lefts numbers hs
             c.in_ok-symbols_of.ensures.len c.in_ok-symbols_of.ensures.symbols z.states z.rules
             z.tokens
             a.states a.rules a.tokens w ll fl fe ns;
-        small = small v z a cells.usual.items cells.sets.items cells.known cells.rows.items c1 ce be
+        small = small p v z a cells.usual.items cells.sets.items cells.known cells.rows.items c1 ce be
             i h1 tg.usual.items tg.rows.items c2 t h2 symbols lengths lefts numbers hs
             c.in_ok-symbols_of.ensures.len c.in_ok-symbols_of.ensures.symbols z.states z.rules
             z.tokens

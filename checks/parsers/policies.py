@@ -1,0 +1,219 @@
+"""Compares parsers that `ycc` makes, under each policy of default reductions, with bison's and byacc's.
+
+    policies [--seed N] [--drawn N] [ycc=PATH]
+
+Over N grammars drawn at random (40) and lists of tokens for each, right and wrong ones, parsers
+make the steps of bison's under `most` and under `consistent` with `parse.lac full`, with the same
+texts of errors, and under `sole` those of byacc's: when a token is read, what is shifted and
+reduced, what is popped and discarded after an error, and how a parse ends. The traces of the peers
+tell their steps. `parsers` compares `consistent` with `ystep`. The last line is `N passed, M failed`.
+"""
+import os
+import random
+import re
+import shutil
+import tempfile
+from concurrent.futures import ThreadPoolExecutor
+from pathlib import Path
+from typing import NamedTuple
+
+from checks.shared import running
+from checks.shared.arguments import asked
+from checks.shared.grammars import productive, tokens_of
+from checks.shared.libraries import compiler
+from checks.shared.tally import Tally
+
+# How many lists of tokens a parser gets, and how many lines of steps are compared.
+LISTS, MOST = 24, 2_000
+CHECKED = ["-g", "-O1", "-fsanitize=address,undefined", "-fno-sanitize-recover=all"]
+
+HEAD = """%%{
+#include <stdio.h>
+#include <stdlib.h>
+static int yylex (void);
+static void yyerror (const char *what);
+static void said (int kind, int number);
+#define YYSTEP(kind, number) said (kind, number)
+%s
+%%}
+%s"""
+
+TAIL = """
+%%%%
+static void said (int kind, int number)
+{
+  if (kind == 'r')
+    fprintf (stderr, "r %%d\\n", number);
+  else if (kind != 'e' && kind != 'f')
+    fprintf (stderr, "%%c\\n", kind);
+}
+
+static void yyerror (const char *what)
+{
+  fprintf (stderr, "e %%s\\n", what);
+}
+
+static int yylex (void)
+{
+  static const int tokens[] = { 0%s };
+  int at;
+  fputs ("l\\n", stderr);
+  return scanf ("%%d", &at) == 1 ? tokens[at] : 0;
+}
+
+int main (void)
+{
+  int ended;
+%s  (void) said;
+  ended = yyparse ();
+  fprintf (stderr, "= %%d\\n", ended);
+  return 0;
+}
+"""
+
+
+class Way(NamedTuple):
+    """A policy: the words that ask both for it, the peer, and how its trace tells steps."""
+
+    name: str
+    ycc: list
+    peer: list
+    steps: dict
+
+
+# Lines of traces, and the steps that they tell.
+BISON = {
+    r"Reducing stack by rule (\d+) .*": r"r \1",
+    r'Shifting token "?(?:end of file|\$end).*': "a",
+    r"Shifting token error .*": "x",
+    r"Shifting token .*": "s",
+    r"Error: popping .*": "p",
+    r"Error: discarding .*": "d",
+    r"(e .*|l|= \d)": r"\1",
+}
+BYACC = {
+    r"yydebug: state \d+, reducing by rule (\d+) .*": r"r \1",
+    r"yydebug: state \d+, shifting to state .*": "s",
+    r"yydebug: state \d+, error recovery shifting .*": "x",
+    r"yydebug: error recovery discarding state .*": "p",
+    r"yydebug: state \d+, error recovery discards .*": "d",
+    r"(e .*|l|= \d)": r"\1",
+}
+SAYS = "%define parse.error verbose\n"
+WAYS = [
+    Way("most", ["--bison"], ["bison"], BISON),
+    Way("most with LAC", ["--bison", "-Dparse.lac=full"], ["bison", "-Dparse.lac=full"], BISON),
+    Way(
+        "consistent with LAC",
+        ["-Dlr.default-reduction=consistent", "-Dparse.lac=full"],
+        ["bison", "-Dlr.default-reduction=consistent", "-Dparse.lac=full"],
+        BISON,
+    ),
+    Way("sole", ["-Dlr.default-reduction=sole"], ["byacc"], BYACC),
+]
+
+
+class Differs(Exception):
+    """What a parser does that it should not."""
+
+
+def text_of(grammar, way, is_peer):
+    """A grammar file with what reads its tokens and tells its steps."""
+    traced = "  yydebug = 1;\n" if is_peer else ""
+    declared = "#define YYDEBUG 1" if is_peer else ""
+    says = "" if way.steps is BYACC else SAYS
+    tokens = "".join(f", {it}" for it in grammar.names[1 : grammar.tokens])
+    tokens = tokens.replace(", error", ", -1", 1)
+    return HEAD % (declared, says) + grammar.text + TAIL % (tokens, traced)
+
+
+def built(folder, name, words, text):
+    """The parser of a grammar file, or `None` where it is refused."""
+    file, parser, program = (f"{folder}/{name}{it}" for it in (".y", ".c", ""))
+    Path(file).write_text(text)
+    if running.ran([*words, "-o", parser, file]).returncode:
+        return None
+    made = running.ran([compiler(), "-w", *CHECKED, "-o", program, parser])
+    if made.returncode:
+        raise Differs(f"{name} is not compiled\n{made.stderr}")
+    return program
+
+
+def told(program, given):
+    """The lines that a parser writes; some reduce without an end, of which the first are enough."""
+    words = ["sh", "-c", 'timeout 20 "$0" 2>&1 | head -c 400000', program]
+    it = running.ran(words, given=" ".join(map(str, given)))
+    if "Sanitizer" in it.stdout or "runtime error" in it.stdout:
+        raise Differs(it.stdout)
+    return it.stdout.split("\n")[:-1]
+
+
+def steps_of(lines, steps):
+    """The steps that lines of a trace tell."""
+    made = []
+    for line in lines:
+        for form, step in steps.items():
+            found = re.fullmatch(form, line)
+            if found:
+                made.append(found.expand(step))
+                break
+    return made[:MOST]
+
+
+def own_steps(lines, way):
+    """The steps that our parser tells; byacc's trace tells no acceptance."""
+    return [it for it in lines if it != "a" or way.steps is BISON][:MOST]
+
+
+def lists_of(grammar, rng):
+    """Lists of tokens, by their places among the tokens."""
+    for _ in range(LISTS):
+        tokens = tokens_of(grammar, rng)
+        for _ in range(rng.randrange(3)):
+            at = rng.randint(0, len(tokens))
+            tokens[at : at + rng.randrange(2)] = [rng.choice(range(2, grammar.tokens))]
+        yield tokens
+
+
+def compare(way, grammar, lists, ycc):
+    """Both parsers of a grammar on lists of tokens."""
+    with tempfile.TemporaryDirectory() as folder:
+        peer = built(folder, "peer", way.peer, text_of(grammar, way, True))
+        own = built(folder, "own", [ycc, *way.ycc], text_of(grammar, way, False))
+        if peer is None or own is None:
+            if peer or own:
+                raise Differs(f"{way.name}: one refuses\n{grammar.text}")
+            return
+        for given in lists:
+            wanted = steps_of(told(peer, given), way.steps)
+            made = own_steps(told(own, given), way)
+            if made != wanted:
+                names = " ".join(grammar.names[it] for it in given)
+                both = f"{way.peer[0]}:\n{wanted}\nycc:\n{made}"
+                raise Differs(f"{way.name}\n{grammar.text}\n{names}\n{both}")
+
+
+def wrong(job):
+    """The lines that say why a check fails; none where it doesn't."""
+    try:
+        compare(*job)
+        return []
+    except Differs as differs:
+        return [f"{differs}\n"]
+
+
+def main(words):
+    """Compares parsers with those of the peers."""
+    given = asked(__doc__, words, ("ycc",), seed=1, drawn=40)
+    rng, tally, jobs = random.Random(given.seed), Tally(), []
+    ways = [it for it in WAYS if shutil.which(it.peer[0])]
+    for peer in sorted({it.peer[0] for it in WAYS} - {it.peer[0] for it in ways}):
+        print(f"{peer} is not installed: nothing is compared with it")
+    for _ in range(given.drawn):
+        grammar = productive(rng)
+        lists = list(lists_of(grammar, rng))
+        jobs += [(way, grammar, lists, given.programs["ycc"]) for way in ways]
+    with ThreadPoolExecutor(os.cpu_count()) as pool:
+        for job, lines in zip(jobs, pool.map(wrong, jobs)):
+            tally.take(job[0].name, lines)
+    return tally.end()
