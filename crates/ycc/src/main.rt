@@ -1,10 +1,9 @@
 //! `ycc [-dltvyLP] [-b prefix] [-o file] [-p prefix] [-H file] [-D name=value] grammar`: writes a
 //! parser in C of a grammar file, a drop-in for `yacc` and `bison` in a build.
 //!
-//! `words` has the command line, `persona` whether `bison` is called, `names` the names of the files
-//! that are written; `reading` reads
-//! the grammar file, `messages` one of messages for errors, `making` makes the texts and writes
-//! them, and `ending` says how a run ends.
+//! `words` has the command line, `persona` whether `bison` is called, `names` the names of the
+//! files that are written; `reading` reads the grammar file, `messages` one of messages for errors,
+//! `making` makes the texts and writes them, and `ending` says how a run ends.
 #![tactic(auto)]
 
 mod ending;
