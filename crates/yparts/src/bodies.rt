@@ -3,7 +3,7 @@
 use crate::gather::Gather;
 use crate::parts::Named;
 use yexplain::reads::Made;
-use yforeign::directive::{is_symbol, is_word};
+use yforeign::directive::is_symbol;
 use yforeign::lexeme::{Kind, Lexeme};
 
 /// What stands between the first byte of a text and its last, without blanks around it.
@@ -25,21 +25,14 @@ impl Gather<'_, '_> {
         self.parts.names.push(Named { name, place })?;
         for lexeme in lexemes {
             let name = lexeme.text(source);
-            self.see_lexeme(lexeme);
+            self.see_lexeme(lexeme, true);
             match lexeme.kind {
-                Kind::Tag => {
-                    // byacc has no tags of actions
-                    self.parts.options.is_bison = true;
-                    tag = Some(inner(name));
-                }
+                Kind::Tag => tag = Some(inner(name)),
                 Kind::Reference => {
                     if let Some(named) = self.parts.names.last_mut() {
                         named.name = inner(name);
                     }
                 }
-                // of directives byacc has `%prec` alone in a body
-                Kind::Word if is_word(name, "%prec") => {}
-                Kind::Word => self.parts.options.is_bison = true,
                 Kind::Braced => {
                     place = place.saturating_add(1);
                     self.parts.names.push(Named { name: b"", place })?;

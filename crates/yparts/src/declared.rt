@@ -243,7 +243,7 @@ impl<'a> Gather<'a, '_> {
         let mut token = None;
         for (at, lexeme) in rest.iter().enumerate() {
             let text = lexeme.text(self.source);
-            self.see_lexeme(lexeme);
+            self.see_lexeme(lexeme, false);
             if lexeme.kind == Kind::Tag {
                 // byacc has one tag, the first of a list
                 self.parts.options.is_bison = self.parts.options.is_bison || at > 0;

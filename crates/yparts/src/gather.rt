@@ -4,6 +4,7 @@ use crate::parts::{Parts, Piece};
 use crate::words::is_only_bison;
 use std::alloc::Global;
 use yexplain::reads::Made;
+use yforeign::directive::is_word;
 use yforeign::lexeme::{Kind, Lexeme};
 use yforeign::numbers::is_hexadecimal;
 use yimport::import::Imported;
@@ -77,13 +78,16 @@ impl<'a, 'b> Gather<'a, 'b> {
     }
 
     /// Notes whether a lexeme of a list or of a body is one that byacc doesn't take: a name with a
-    /// dash, a hexadecimal number, that of a macro, or a string that is translated.
-    pub fn see_lexeme(&mut self, lexeme: &Lexeme) {
+    /// dash or in brackets, a hexadecimal number, that of a macro, a string that is translated; in
+    /// a body the tag of an action, and each directive but `%prec`.
+    pub fn see_lexeme(&mut self, lexeme: &Lexeme, in_body: bool) {
         let text = lexeme.text(self.source);
         let is_foreign = match lexeme.kind {
             Kind::Name => text.contains(&b'-'),
             Kind::Number => is_hexadecimal(text),
             Kind::Arguments | Kind::Translated | Kind::Reference => true,
+            Kind::Tag => in_body,
+            Kind::Word => in_body && !is_word(text, "%prec"),
             _ => false,
         };
         self.parts.options.is_bison = self.parts.options.is_bison || is_foreign;

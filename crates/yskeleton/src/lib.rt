@@ -7,9 +7,8 @@
 //! messages for errors, and `strings` writes texts within strings of C. `style` says how the parser
 //! looks; `references` finds the values and places that actions name, `scene` says where they
 //! stand, `actions` writes them, and `code` what the file has; `dialect` tells files of bison by
-//! what these name; `declared` has tokens and types,
-//! `calls` functions with their parameters, `cares` what is done with values. `parser` puts all
-//! together for a `skeleton`.
+//! what these name; `declared` has tokens and types, `calls` functions with their parameters,
+//! `cares` what is done with values. `parser` puts all together for a `skeleton`.
 //!
 //! `rule_comments` finds the comments among the rules of an open file, `rule_given` the names that
 //! they give, `rule_stems` has what each alternative is called, `rule_names` the names of all rules,
