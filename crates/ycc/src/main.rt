@@ -6,6 +6,7 @@
 //! them, and `ending` says how a run ends.
 #![tactic(auto)]
 
+mod against;
 mod ending;
 mod making;
 mod messages;
@@ -14,6 +15,7 @@ mod policy;
 mod reading;
 mod words;
 
+use crate::against::refuse_others;
 use crate::ending::{Ending, File, outside, say, tell};
 use crate::making::write_files;
 use crate::reading::read;
@@ -27,17 +29,17 @@ use yfiles::arguments::{Arguments, arguments_of};
 use yfiles::output::Output;
 use yparts::options::{Options, Purity};
 
-/// Sets the variables that words have, each with a zero after it. Braces or quotes around a value
-/// are left out.
+/// Sets the variables that words have, each with its letter before it and a zero after it. Braces
+/// or quotes around a value are left out.
 fn define<'a>(
     rt: &HostRuntime,
     variables: &'a [u8],
     options: &mut Options<'a>,
 ) -> Result<(), Ending> {
-    for variable in variables.split(|byte| *byte == 0) {
-        if variable.is_empty() {
+    for word in variables.split(|byte| *byte == 0) {
+        let Some((by, variable)) = word.split_first() else {
             continue;
-        }
+        };
         let equals = variable.iter().position(|byte| *byte == b'=');
         let end = equals.unwrap_or(variable.len());
         let name = variable.get(..end).unwrap_or(variable);
@@ -50,8 +52,7 @@ fn define<'a>(
         options.is_bison = true;
         if let Err(refusal) = options.define(name, value, is_code) {
             let mut out = Output::new(rt.alloc());
-            out.put("ycc: -D ");
-            out.put_bytes(variable);
+            out.put_pieces(&[b"ycc: -", &[*by], b" ", variable]);
             out.put(": ");
             out.line(refusal.text());
             return Err(say(rt, out, Ending::Refused));
@@ -63,6 +64,7 @@ fn define<'a>(
 /// Does what words ask for with a grammar file; their wishes are taken as if the file had them.
 fn generate(rt: &HostRuntime, given: Given<'_>, file: &File) -> Result<(), Ending> {
     let mut found = read(rt, file)?;
+    refuse_others(rt, file, &found.parts)?;
     let options = &mut found.parts.options;
     if given.pure {
         options.purity = Purity::Yes;

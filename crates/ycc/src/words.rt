@@ -68,7 +68,7 @@ enum Has {
 type Word = (&'static str, Option<char>, Has);
 
 /// The words of the command line in the order of its help. One of a letter has no other name.
-const WORDS: [Word; 22] = [
+const WORDS: [Word; 23] = [
     ("d", Some('d'), Has::Nothing),
     ("no-lines", Some('l'), Has::Nothing),
     ("debug", Some('t'), Has::Nothing),
@@ -84,6 +84,7 @@ const WORDS: [Word; 22] = [
     ("H", Some('H'), Has::Value("FILE")),
     ("messages", None, Has::Value("FILE")),
     ("define", Some('D'), Has::Values("NAME=VALUE")),
+    ("force-define", Some('F'), Has::Values("NAME=VALUE")),
     ("defines", None, Has::Perhaps("FILE")),
     ("header", None, Has::Perhaps("FILE")),
     ("table", None, Has::Perhaps("FILE")),
@@ -111,6 +112,7 @@ fn help_of(name: &str) -> &'static str {
         "H" => "Writes the header to this file",
         "messages" => "The parser says the messages of this file for its errors",
         "define" => "Sets a variable of %define",
+        "force-define" => "The same, whatever the file says",
         "defines" | "header" => "Writes a header too, to this file",
         "table" => "Writes the table of yacc too, to this file",
         "report" => "Writes the report on states too",
@@ -132,10 +134,7 @@ fn arg_of<'a>(alloc: Global, (name, letter, has): Word) -> Made<Arg<'a>> {
     match has {
         Has::Nothing => Ok(arg.action(ArgAction::SetTrue)),
         Has::Value(shown) => Ok(arg.value_name(shown).action(ArgAction::Set)),
-        Has::Values(shown) => {
-            let arg = arg.value_name(shown).short_alias('F')?;
-            Ok(arg.action(ArgAction::Append))
-        }
+        Has::Values(shown) => { Ok(arg.value_name(shown).action(ArgAction::Append)) }
         Has::Perhaps(shown) => {
             let arg = arg.value_name(shown).num_args(0..=1).require_equals(true);
             Ok(arg.default_missing_value("").action(ArgAction::Set))
@@ -194,12 +193,15 @@ pub fn given_in<'a>(matches: &ArgMatches<'a>) -> Option<Given<'a>> {
     })
 }
 
-/// The variables that words set, with a zero after each.
+/// The variables that words set, each with its letter before it and a zero after it.
 pub fn variables_in(alloc: Global, matches: &ArgMatches<'_>) -> Made<Vec<u8>> {
     let mut variables = Vec::new(alloc);
-    for variable in matches.get_strs("define").unwrap_or(&[]) {
-        variables.extend_from_slice(variable.as_bytes())?;
-        variables.push(0)?;
+    for (name, letter) in [("define", b'D'), ("force-define", b'F')] {
+        for variable in matches.get_strs(name).unwrap_or(&[]) {
+            variables.push(letter)?;
+            variables.extend_from_slice(variable.as_bytes())?;
+            variables.push(0)?;
+        }
     }
     Ok(variables)
 }
