@@ -7,8 +7,7 @@ parsers are made twice: by the peer that its file `case` names, and by ycc, in f
 names. Both programs run on each input, and standard output, standard error and status have to be
 the same, byte for byte. What ycc wrote is compiled by each compiler that is there, with all
 warnings and the sanitizers; one warning fails the case. With `--peer-twice` the peer stands in
-ycc's place, bison without default reductions where `case` hasn't `--bison-lists`: so it shows that
-a case depends on nothing that ycc does otherwise by design.
+ycc's place.
 
 Each file of checks/data/features/told begins with a comment `PEER tells: WORDS`: with these words for
 both, the peer and ycc have to end with the same status and say the same warnings and errors in the
@@ -57,9 +56,7 @@ COMPILERS = {"c": ["gcc", "clang"], "c++": ["g++", "clang++"]}
 STRICT = ["-Wall", "-Wextra", "-pedantic", "-O1", "-g"]
 CHECKED = ["-fsanitize=address,undefined", "-fno-sanitize-recover=all"]
 EASY = ["-w", "-O1"]
-# The word by which ycc lists tokens as bison does after its default reductions.
-LISTS = "--bison-lists"
-EAGER = {"bison": ["-Flr.default-reduction=consistent"], "byacc": []}
+PEERS = ["bison", "byacc"]
 KEYS = {"peer", "language", "make", "ycc", "compile", "flags", "status", "told", "environment"}
 KEYS |= {"input", "called", "theirs"}
 REFUSED = re.compile(r"refused below: (.*?) *\*/")
@@ -284,8 +281,7 @@ def makers_of(case, ycc):
     peer = Maker([case.peer, *case.words("theirs")], False)
     own = case.words("ycc") if case.peer == "bison" else []
     if ycc is None:
-        eager = [] if LISTS in own else EAGER[case.peer]
-        return peer, Maker([*peer.words, *eager], True, is_peer=True)
+        return peer, Maker([*peer.words], True, is_peer=True)
     return peer, Maker([ycc, *own], True, called=case.all("called", "")[0])
 
 
@@ -384,7 +380,7 @@ def cases():
 
 def missing():
     """The programs that a run takes and that aren't there."""
-    return [it for it in (*EAGER, "gcc", "g++") if not shutil.which(it)]
+    return [it for it in (*PEERS, "gcc", "g++") if not shutil.which(it)]
 
 
 def jobs_of(ycc, given):

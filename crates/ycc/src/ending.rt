@@ -57,7 +57,8 @@ pub struct File {
     pub path: String,
     /// Its bytes.
     pub bytes: Vec<u8>,
-    /// The variables that words set as if the file did, with a zero after each.
+    /// The variables that words set as if the file did, each with its letter before it and a zero
+    /// after it.
     pub variables: Vec<u8>,
     /// Whether words ask for the order and the names of bison.
     pub is_bison: bool,

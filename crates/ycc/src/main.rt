@@ -13,6 +13,7 @@
 //! told.
 #![tactic(auto)]
 
+mod against;
 mod bodies;
 mod declared;
 mod deprecated;
@@ -37,6 +38,7 @@ mod walk;
 mod warnings;
 mod words;
 
+use crate::against::refuse_others;
 use crate::ending::{Ending, File, outside, say, tell};
 use crate::help::help_text;
 use crate::making::write_files;
@@ -87,6 +89,7 @@ fn define<'a>(
 /// Does what words ask for with a grammar file; their wishes are taken as if the file had them.
 fn generate(rt: &HostRuntime, given: Given<'_>, file: &File) -> Result<(), Ending> {
     let mut found = read(rt, file)?;
+    refuse_others(rt, file, &found.parts)?;
     let options = &mut found.parts.options;
     if given.pure {
         options.purity = Purity::Yes;

@@ -161,8 +161,7 @@ fn members_of(
     Ok(members)
 }
 
-/// The number of the set of tokens at which state `q` makes its usual reduction: set 0 where it
-/// does so at each.
+/// The number of the set of tokens at which state `q` makes its usual reduction: 0 where at each.
 fn set_of(
     alloc: Global,
     tables: &Tables,

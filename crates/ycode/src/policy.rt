@@ -16,8 +16,7 @@ use yprovenance::shift_at;
 use ysymbols::Sym;
 use ytables::{Action, Tables};
 
-/// Which states have a default reduction: a rule that they reduce by at each token at which their
-/// cells are errors.
+/// Which states have a default rule, which they reduce by where their cells are errors.
 #[derive(Clone, Copy)]
 pub enum Policy {
     /// Consistent states, which reduce by one rule at every token in any case.
@@ -26,8 +25,7 @@ pub enum Policy {
     Lone,
     /// States that have one reduction left and no shift; their errors of `%nonassoc` are lost.
     Sole,
-    /// States that reduce and don't shift `error`: by their commonest reduction, of equals that by
-    /// the first rule. Errors of `%nonassoc` stay.
+    /// States that don't shift `error`: by their commonest reduction, of equals by the first rule.
     Most,
 }
 
@@ -223,8 +221,7 @@ fn reduces_always(tables: &Tables, sizes: &Sizes, policy: Policy, rule: usize, q
     true
 }
 
-/// Whether state `q` reduces before a token is read, where this is the rule that it reduces by by
-/// default.
+/// Whether state `q` reduces before a token is read, where this is its default rule.
 pub fn is_always(
     tables: &Tables,
     sizes: &Sizes,

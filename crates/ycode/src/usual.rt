@@ -73,8 +73,7 @@ fn where_some(numbers: &[usize], k: usize) -> Option<usize>
     }
 }
 
-/// The value that most places have, the least of equals, where a place has one. Each is below
-/// `bound`.
+/// The value that most places have, the least of equals, where one has any. Each is below `bound`.
 pub fn commonest(
     alloc: Global,
     values: &[Option<usize>],

@@ -1,10 +1,10 @@
 //! Declarations of a foreign file.
 
 use crate::bodies::inner;
-use crate::gather::{Defined, Gather};
+use crate::gather::Gather;
 use crate::options::{Errors, Header, Purity};
 use crate::params::param_at;
-use crate::parts::{Block, Care, Deed, Numbered, Piece, Taker, Target, Whose};
+use crate::parts::{Block, Care, Deed, Defined, Numbered, Piece, Taker, Target, Whose};
 use crate::refusal::{Refusal, Trouble};
 use crate::versions::required;
 use crate::words::{Word, target_of, word_of};

@@ -103,6 +103,7 @@ impl<'a> Gather<'a, '_> {
         self.label_all()?;
         let actions = mem::replace(&mut self.actions, Vec::new(self.alloc));
         self.parts.set_actions(self.grammar, &actions)?;
+        self.parts.defined = mem::replace(&mut self.defined, Vec::new(self.alloc));
         self.tag_actions();
         Ok(())
     }

@@ -1,6 +1,6 @@
 //! The parts of a foreign file while they are gathered.
 
-use crate::parts::{Parts, Piece};
+use crate::parts::{Defined, Parts, Piece};
 use crate::words::is_only_bison;
 use std::alloc::Global;
 use yexplain::reads::Made;
@@ -9,17 +9,6 @@ use yforeign::lexeme::{Kind, Lexeme};
 use yforeign::numbers::is_hexadecimal;
 use yimport::import::Imported;
 use ysymbols::{Grammar, Sym, let_go};
-
-/// A variable that the file defines.
-#[derive(Clone, Copy)]
-pub struct Defined<'a> {
-    /// Its name.
-    pub name: &'a [u8],
-    /// Its value.
-    pub value: &'a [u8],
-    /// Where it is defined.
-    pub at: usize,
-}
 
 /// A file whose parts are gathered.
 pub struct Gather<'a, 'b> {

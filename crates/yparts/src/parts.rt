@@ -140,6 +140,17 @@ pub struct Numbered {
     pub number: usize,
 }
 
+/// A variable that the file defines.
+#[derive(Clone, Copy)]
+pub struct Defined<'a> {
+    /// Its name.
+    pub name: &'a [u8],
+    /// Its value.
+    pub value: &'a [u8],
+    /// Where it is defined.
+    pub at: usize,
+}
+
 /// All that a file says of its parser beside its tables.
 #[derive(Drop)]
 pub struct Parts<'a> {
@@ -165,6 +176,8 @@ pub struct Parts<'a> {
     pub mentioned: Vec<Sym>,
     /// What stands after the second mark.
     pub tail: Option<Piece<'a>>,
+    /// The variables that the file defines.
+    pub defined: Vec<Defined<'a>>,
     /// Wishes.
     pub options: Options<'a>,
 }
@@ -191,6 +204,7 @@ impl<'a> Parts<'a> {
             numbers: Vec::new(alloc),
             mentioned: Vec::new(alloc),
             tail: None,
+            defined: Vec::new(alloc),
             options: Options::none(),
         })
     }

@@ -1,0 +1,4 @@
+%define lr.default-reduction most
+%token A
+%%
+s : A ;
