@@ -113,14 +113,15 @@ fn read_native<'a>(
     })
 }
 
-/// All but what is said of conflicts, and in a file of bison of strings that byacc reads otherwise.
+/// What is said of an import, but for conflicts, which are told by themselves; of a file of bison
+/// nothing that is a warning, since its parser does what bison's does.
 fn only_own(alloc: Global, told: Diagnostics, is_bison: bool) -> Result<Diagnostics, Ending> {
-    let last = if is_bison {
-        "no-dangling-alias"
+    let words = if is_bison {
+        ["none", "none"]
     } else {
-        "no-conflicts-sr"
+        ["no-conflicts-sr", "no-conflicts-rr"]
     };
-    match Choice::of(&["no-conflicts-sr", "no-conflicts-rr", last], &[]) {
+    match Choice::of(&words, &[]) {
         Some(choice) => Ok(told.only(alloc, choice.shown)?),
         None => Ok(told),
     }
