@@ -92,11 +92,11 @@ BISON = {
     r"(e .*|l|= \d)": r"\1",
 }
 BYACC = {
-    r"yydebug: state \d+, reducing by rule (\d+) .*": r"r \1",
-    r"yydebug: state \d+, shifting to state .*": "s",
-    r"yydebug: state \d+, error recovery shifting .*": "x",
-    r"yydebug: error recovery discarding state .*": "p",
-    r"yydebug: state \d+, error recovery discards .*": "d",
+    r"yydebug\S*: state \d+, reducing by rule (\d+) .*": r"r \1",
+    r"yydebug\S*: state \d+, shifting to state .*": "s",
+    r"yydebug\S*: state \d+, error recovery shifting .*": "x",
+    r"yydebug\S*: error recovery discarding state .*": "p",
+    r"yydebug\S*: state \d+, error recovery discarding token .*": "d",
     r"(e .*|l|= \d)": r"\1",
 }
 SAYS = "%define parse.error verbose\n"
@@ -149,7 +149,8 @@ def told(program, given):
 
 
 def steps_of(lines, steps):
-    """The steps that lines of a trace tell."""
+    """The steps that lines of a trace tell; that of byacc tells of the lowest state too, which is
+    not popped."""
     made = []
     for line in lines:
         for form, step in steps.items():
@@ -157,12 +158,31 @@ def steps_of(lines, steps):
             if found:
                 made.append(found.expand(step))
                 break
+    if steps is BYACC and made[-2:] == ["p", "= 1"]:
+        del made[-2]
     return made[:MOST]
 
 
 def own_steps(lines, way):
     """The steps that our parser tells; byacc's trace tells no acceptance."""
     return [it for it in lines if it != "a" or way.steps is BISON][:MOST]
+
+
+def is_reduced(grammar):
+    """Whether each rule can be reached; bison gives the others no numbers."""
+    known, more = {grammar.rules[0].left}, True
+    while more:
+        bodies = (rule.body for rule in grammar.rules if rule.left in known)
+        more = {it for body in bodies for it in body} - known
+        known |= more
+    return known.issuperset(rule.left for rule in grammar.rules)
+
+
+def reduced(rng):
+    """A grammar that is drawn until all of it is of use."""
+    while not is_reduced(grammar := productive(rng)):
+        pass
+    return grammar
 
 
 def lists_of(grammar, rng):
@@ -210,7 +230,7 @@ def main(words):
     for peer in sorted({it.peer[0] for it in WAYS} - {it.peer[0] for it in ways}):
         print(f"{peer} is not installed: nothing is compared with it")
     for _ in range(given.drawn):
-        grammar = productive(rng)
+        grammar = reduced(rng)
         lists = list(lists_of(grammar, rng))
         jobs += [(way, grammar, lists, given.programs["ycc"]) for way in ways]
     with ThreadPoolExecutor(os.cpu_count()) as pool:

@@ -30,7 +30,7 @@ newline may stand as in C:
     compile parser.c other.c          what is compiled and linked
     flags -DYYDEBUG=1                 for the compilers; each line is a case of its own
     status 1                          what the program that makes a parser ends with
-    told warning: parse.lac           words of a line that ycc alone says
+    told warning: WORDS               words of a line that ycc alone says
     environment YYDEBUG=1             what the program finds there
     input 1 + 2\\n                     standard input of one run; a newline follows
 """

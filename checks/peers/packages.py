@@ -5,7 +5,7 @@
 
 `apt-get source` fetches each package. It is built twice, with no change but which programs are
 found first by the names `yacc`, `byacc` and `bison`: those of the machine, and `ycc`, in bison's
-place `ycc --bison --bison-lists`. Its own tests run with both; then both builds read the texts of
+place `ycc --bison`. Its own tests run with both; then both builds read the texts of
 its tests, and N of them (300) with one byte or token dropped, doubled, swapped or replaced: output,
 messages and status have to be the same. What differs by design is named in the table of packages,
 with its reason; where a program's output depends on memory that it never set, two runs of the
@@ -63,7 +63,7 @@ def generators(ycc, peer_twice):
     if peer_twice:
         return peer, Generators("ycc", peer.yacc, peer.bison)
     path = Path(ycc).absolute()
-    return peer, Generators("ycc", str(path), f"{path} --bison --bison-lists")
+    return peer, Generators("ycc", str(path), f"{path} --bison")
 
 
 def both_built(package, source, room, given):

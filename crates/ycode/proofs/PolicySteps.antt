@@ -1,6 +1,6 @@
 -- What holds of default reductions under each policy.
 use Rattle.std.proofs.Common.{ℕ, suc, ◌≡◌, ◌≢◌, ◌+◌, ◌<◌, ◌≤◌, ◌⊎◌, inl, inr, Bool, true, false}
-use Rattle.std.proofs.Common.{not, ◌&&◌, cond, List, ◌++◌, [], ◌∷◌, length, get_or, map, refl, sym}
+use Rattle.std.proofs.Common.{not, ◌&&◌, cond, List, [], ◌∷◌, length, get_or, refl, sym}
 use Rattle.std.proofs.Common.{ap, ◌∙◌, subst, arith, Option, Some, None, if◌then◌else◌, nat_eq}
 use Rattle.std.proofs.Common.{nat_lt, slice_index}
 use Rattle.std.proofs.lemmas.Bool.Decides.{eqb_tells, leb_tells}
@@ -22,7 +22,7 @@ use Rattle.ycode.specs.Policies.{act_at, always_at, always_by, filled_by, permit
 use Rattle.ycode.specs.Policies.{reduces_always, rule_for, stays_error}
 use Rattle.ycode.specs.States.{states_of, tokens_of, rules_of, Fits, is_error, rule_in}
 use Rattle.ycode.specs.States.{reductions_in}
-use Rattle.ycode.specs.Usual.{commonest, count_of, counts_in, greatest_place, has_value, where_some}
+use Rattle.ycode.specs.Usual.{commonest, count_of, counts_in, greatest_place, has_value}
 use Rattle.ycode.proofs.ListSteps.{range_more}
 use Rattle.ycode.proofs.EntrySteps.{same_yes}
 use Rattle.ycode.proofs.CellSteps.{consistent}

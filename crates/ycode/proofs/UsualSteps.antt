@@ -1,6 +1,6 @@
 -- The most usual of some values, one place more at a time.
 use Rattle.std.proofs.Common.{ℕ, ◌≡◌, ◌≢◌, ◌+◌, ◌<◌, ◌≤◌, ◌⊎◌, inl, inr, Bool, true, false}
-use Rattle.std.proofs.Common.{nat_eq, nat_lt, List, length, get_or, set, take, refl}
+use Rattle.std.proofs.Common.{nat_lt, List, length, get_or, set, take, refl}
 use Rattle.std.proofs.Common.{sym, ap, ◌∙◌, subst, arith, Option, Some, None, unwrap_or}
 use Rattle.std.proofs.Common.{slice_index, replicate, cond}
 use Rattle.std.specs.List.{best_of, fold, range_with_len}
@@ -11,7 +11,7 @@ use Rattle.std.proofs.lemmas.List.MinMax.{best_of_keeps, best_of_takes}
 use Rattle.std.proofs.lemmas.List.Sums.{count_by_more_yes, count_by_more_no, fold_push}
 use Rattle.std.proofs.lemmas.List.{take_all, get_or-replicate, length-replicate}
 use Rattle.ycode.proofs.ListSteps.{range_more}
-use Rattle.ycode.specs.Usual.{has_value, count_of, rank_at, usual_place, most_usual}
+use Rattle.ycode.specs.Usual.{has_value, count_of, rank_at, most_usual}
 
 abbrev Values : Type 0
 Values = List (Option ℕ)

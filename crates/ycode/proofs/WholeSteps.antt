@@ -1,12 +1,11 @@
 -- The arrays of a parser are those of the definition.
-use Rattle.std.proofs.Common.{ℕ, ◌≡◌, ◌+◌, ◌-◌, ◌<◌, ◌∙◌, List, [], length, map, sym, ap, arith}
-use Rattle.std.proofs.Common.{slice_index, slice_index_or}
+use Rattle.std.proofs.Common.{ℕ, ◌≡◌, ◌+◌, ◌-◌, ◌<◌, ◌∙◌, List, [], length, map, ap, arith}
+use Rattle.std.proofs.Common.{slice_index}
 use Rattle.std.specs.List.{range_with_len}
 use Rattle.std.proofs.lemmas.List.FromFn.{fill_by_all}
 use Rattle.ysymbols.specs.Grammar.{left_of, body_of}
 use Rattle.ylalr.specs.Collection.{state_of}
 use Rattle.ytables.specs.Tables.{TablesValue}
-use Rattle.ycode.specs.declared.code.Code.{Code}
 use Rattle.ycode.specs.declared.comb.Comb.{Comb}
 use Rattle.ycode.specs.declared.entry.Entry.{Entry}
 use Rattle.ycode.specs.declared.policy.Policy.{Policy}

@@ -1,4 +1,4 @@
-use Rattle.std.proofs.Common.{ℕ, ◌≡◌, ◌∙◌, Bool, true, false, List, is_some, sym, subst}
+use Rattle.std.proofs.Common.{◌≡◌, ◌∙◌, Bool, false, List, is_some, sym, subst}
 use Rattle.ycode.specs.Bits.{HasSet, bytes_for, with_set, number_of}
 use Rattle.ycode.specs.Policies.{always_at}
 use Rattle.ycode.proofs.CellLoops.{set_zero, set_other, always_same, always_zero, other_same}

@@ -1,7 +1,7 @@
 use Rattle.std.proofs.Common.{ℕ, sym, subst}
 use Rattle.ytables.specs.declared.cell.Action.{Action}
 use Rattle.ycode.specs.Policies.{act_at}
-use Rattle.ycode.specs.States.{Fits, states_of, rules_of}
+use Rattle.ycode.specs.States.{Fits, states_of}
 use Rattle.ycode.proofs.PolicySteps.{act_fits}
 use Rattle.ycode.proofs.cells.wanted_at.Goals as goal
 

@@ -1,4 +1,4 @@
-use Rattle.std.proofs.Common.{ℕ, ◌≡◌, ◌<◌, ◌∙◌, Bool, true, arith, sym, ap}
+use Rattle.std.proofs.Common.{ℕ, ◌≡◌, ◌<◌, ◌∙◌, arith, sym, ap}
 use Rattle.std.specs.List.{list_all, range_with_len}
 use Rattle.ytables.specs.Cell.{is_reduce}
 use Rattle.ycode.specs.Policies.{act_at}

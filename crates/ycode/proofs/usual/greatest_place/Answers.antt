@@ -1,4 +1,4 @@
-use Rattle.std.proofs.Common.{ℕ, ◌≡◌, ◌<◌, ◌∙◌, Bool, cond, length, slice_index, sym, ap, arith}
+use Rattle.std.proofs.Common.{◌∙◌, Bool, cond, slice_index, sym, ap, arith}
 use Rattle.std.proofs.lemmas.Bool.{lt-ltb, le-ltb}
 use Rattle.ycode.proofs.UsualSteps.{greatest_more}
 use Rattle.ycode.proofs.usual.greatest_place.Goals.{then-numbers-best, else-numbers-best}

@@ -1,4 +1,4 @@
-use Rattle.std.proofs.Common.{ℕ, ◌≡◌, ◌<◌, length, nat_lt, slice_index}
+use Rattle.std.proofs.Common.{◌≡◌, ◌<◌, length, nat_lt, slice_index}
 use Rattle.std.specs.List.{best_of, range_with_len}
 use Rattle.ycode.proofs.usual.greatest_place.Given as goal
 
