@@ -2,7 +2,7 @@
 import random
 from unittest import mock
 
-from checks.parsers import drivers, messages, parsers, spoil
+from checks.parsers import drivers, messages, parsers, policies, spoil
 from checks.parsers.pairs import Case, digest_in, said_in
 from checks.shared.places import EXAMPLES
 from checks.shared.table_file import table_of
@@ -78,6 +78,41 @@ class Parsers(Planted):
             ):
                 job = parsers.ran, ["cc"], "the compiler"
                 self.assertEqual(bool(parsers.wrong(job)), wrong)
+
+
+BISON = """l
+Next token is token NUM ()
+Shifting token NUM ()
+Reducing stack by rule 2 (line 16):
+Shifting token "end of file" ()
+= 0
+"""
+
+
+class Policies(Planted):
+    """Parsers of `ycc` beside those of a peer."""
+
+    def fault(self, trace, made, way):
+        """What is wrong with a parser that writes this, where its peer writes a trace."""
+        texts = [f"sys.stdin.read(); sys.stderr.write({it!r})\n" for it in (trace, made)]
+        both = [self.program(f"parser{at}", text) for at, text in enumerate(texts)]
+        grammar = mock.Mock(text="%%", names=["$end", "error"], tokens=2)
+        with mock.patch.object(policies, "built", side_effect=both):
+            return policies.wrong((way, grammar, [[]], "ycc"))
+
+    def test_steps_of_bison(self):
+        """Another rule, a token read later, no acceptance."""
+        most, right = policies.WAYS[0], "l\ns\nr 2\na\n= 0\n"
+        self.assertEqual(self.fault(BISON, right, most), [])
+        for old, new in [("r 2", "r 3"), ("l\ns", "s\nl"), ("a\n", ""), ("= 0", "= 1")]:
+            self.assertTrue(self.fault(BISON, right.replace(old, new), most))
+
+    def test_steps_of_byacc(self):
+        """The lowest state, which byacc's trace tells of, is not popped."""
+        trace = "l\nyydebug[0]: error recovery discarding state 0\n= 1\n"
+        sole = policies.WAYS[-1]
+        self.assertEqual(self.fault(trace, "l\n= 1\n", sole), [])
+        self.assertTrue(self.fault(trace, "l\np\n= 1\n", sole))
 
 
 class Drivers(Planted):
