@@ -1,10 +1,10 @@
 //! The list of options, as help has it.
 
-use crate::kinds::LISTED;
 use crate::options::{Ask, Has, Known, OPTIONS, Whose};
 use crate::words::USAGE;
 use std::alloc::Global;
 use yfiles::output::Output;
+use yfindings::kinds::LISTED;
 
 /// What stands at the head of the list.
 const HEAD: &str = "\

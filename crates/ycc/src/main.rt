@@ -1,28 +1,17 @@
 //! `ycc [-dlLtvyP] [-b prefix] [-o file] [-p prefix] [-H file] [-D name=value] [-W kinds] grammar`
 //! writes a parser in C of a grammar file, a drop-in for `yacc` and `bison` in a build.
 //!
-//! `kinds` has the kinds of warnings, `words` what the command line asks for, `options` the
-//! options, `reader` reads words by them, `persona` says who is called, and `help` lists options;
-//! `names` has the names of the files that are written; `reading` reads the grammar file,
-//! `messages` one of messages for errors, `making` makes the texts and writes them, and `ending`
-//! says how a run ends.
-//!
-//! `finding` has what deserves a warning, as values; `bodies` cuts the bodies of a file;
-//! `deprecated` and `declared` seek in declarations, `values` and `expects` in bodies, `walk`,
-//! `useless` and `levels` in the tables; `saying` has the words, and `warnings` tells what is to be
-//! told.
+//! `words` has what the command line asks for, `options` the options, `reader` reads words by them,
+//! `persona` says who is called, `policy` which states reduce by default, and `help` lists options;
+//! `names` has the names of the files that are written; `reading` reads the grammar file, `against`
+//! looks at variables that words and file set, `messages` reads those for errors, `making` makes
+//! the texts and writes them, `saying` has the words for what is found, `warnings` tells what is to
+//! be told of it, and `ending` says how a run ends.
 #![tactic(auto)]
 
 mod against;
-mod bodies;
-mod declared;
-mod deprecated;
 mod ending;
-mod expects;
-mod finding;
 mod help;
-mod kinds;
-mod levels;
 mod making;
 mod messages;
 mod names;
@@ -32,9 +21,6 @@ mod policy;
 mod reader;
 mod reading;
 mod saying;
-mod useless;
-mod values;
-mod walk;
 mod warnings;
 mod words;
 

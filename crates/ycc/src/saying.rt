@@ -1,12 +1,12 @@
 //! What is said of what is found.
 
-use crate::finding::{Finding, Idle, What};
-use crate::kinds::{Telling, name_of};
 use std::alloc::Global;
 use std::io::{self, Write};
 use yfiles::diagnostic::{Diagnostic, Severity};
 use yfiles::output::Output;
 use yfiles::place::Place;
+use yfindings::finding::{Finding, Idle, What};
+use yfindings::kinds::{Telling, name_of};
 
 /// Writes a number of things, and a word for one and for several of them.
 fn put_count(out: &mut Output, count: usize, (one, several): (&str, &str), behind: &str) {

@@ -1,23 +1,23 @@
 //! Warnings and errors of a grammar file that is read: which there are, and which are told.
 
-use crate::bodies::bodies_of;
-use crate::declared::Declared;
 use crate::ending::{Ending, File};
-use crate::expects::find_expected;
-use crate::finding::{Finding, Seen, What, about_all};
-use crate::kinds::{Kind, Kinds, Telling};
-use crate::levels::find_levels;
 use crate::reading::Reading;
 use crate::saying::{diagnostic_of, put_counts};
-use crate::useless::find_useless;
-use crate::values::find_in_bodies;
-use crate::walk::{Conflicts, Walk};
 use std::alloc::Global;
 use std::mem;
 use yexplain::reads::Made;
 use yfiles::diagnostic::Diagnostics;
 use yfiles::output::Output;
 use yfiles::steady::Steady;
+use yfindings::bodies::bodies_of;
+use yfindings::declared::Declared;
+use yfindings::expects::find_expected;
+use yfindings::finding::{Finding, Seen, What, about_all};
+use yfindings::kinds::{Kind, Kinds, Telling};
+use yfindings::levels::find_levels;
+use yfindings::useless::find_useless;
+use yfindings::values::find_in_bodies;
+use yfindings::walk::{Conflicts, Walk};
 use yforeign::groups::groups_of;
 use yimport::import::{Imported, import};
 use yimport::refusal::Trouble;

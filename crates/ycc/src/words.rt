@@ -1,8 +1,8 @@
 //! What the command line of `ycc` asks for.
 
-use crate::kinds::Kinds;
 use std::alloc::Global;
 use yexplain::reads::Made;
+use yfindings::kinds::Kinds;
 
 /// What is written to standard error where the words are refused.
 pub const USAGE: &[u8] = b"usage: ycc [-dlLtvyP] [-b prefix] [-o file] [-p prefix] [-H file] \
