@@ -59,9 +59,6 @@ pub const LISTED: &str = "conflicts-sr, conflicts-rr, deprecated, other (told un
   names); all, none; no- before a name turns it off, error= before one makes it an error
 ";
 
-/// Why counterexamples are no kind.
-const NO_EXAMPLES: &str = "ycc searches no counterexamples; ydebug conflicts does";
-
 /// What words say of a kind.
 #[derive(Clone, Copy, PartialEq, Eq)]
 enum Word {
@@ -163,8 +160,9 @@ impl Kinds {
             self.all_errors = !is_off;
             return Ok(());
         }
+        // The warning about conflicts says who searches for these.
         if name == "counterexamples" || name == "cex" {
-            return if is_off { Ok(()) } else { Err(NO_EXAMPLES) };
+            return Ok(());
         }
         let off = is_off != (name == "none");
         let word = if off { Word::Off } else { Word::On };
