@@ -73,12 +73,15 @@ int main (void)
 
 
 class Way(NamedTuple):
-    """A policy: the words that ask both for it, the peer, and how its trace tells steps."""
+    """A policy: the words that ask both for it, the peer, how its trace tells steps, and which
+    kinds are left out: our consistent states are those of which conflicts leave one reduction too,
+    so they are more than bison's, and reduce before a token that is then an error."""
 
     name: str
     ycc: list
     peer: list
     steps: dict
+    leaves_out: str = ""
 
 
 # Lines of traces, and the steps that they tell.
@@ -108,6 +111,7 @@ WAYS = [
         ["-Dlr.default-reduction=consistent", "-Dparse.lac=full"],
         ["bison", "-Dlr.default-reduction=consistent", "-Dparse.lac=full"],
         BISON,
+        "lrp",
     ),
     Way("sole", ["-Dlr.default-reduction=sole"], ["byacc"], BYACC),
 ]
@@ -195,6 +199,27 @@ def lists_of(grammar, rng):
         yield tokens
 
 
+def is_by_design(way, wanted, made):
+    """Whether steps differ as the manual says: bison tells of an error before it reads a token where
+    `%nonassoc` leaves a state nothing; byacc's parser returns 1 at the end after a discard."""
+    if way.steps is BISON:
+        return "e syntax error" in wanted
+    return wanted[-3:] == ["d", "l", "= 1"] and made == [*wanted[:-1], "= 0"]
+
+
+def is_for(way, grammar):
+    """Whether the grammar has the same default reductions by the peer: byacc gives a state none
+    that reduces at `error` alone."""
+    late = any(1 in rule.body[1:] for rule in grammar.rules)
+    lefts = {rule.left for rule in grammar.rules}
+    return way.steps is BISON or not (
+        late
+        or any(
+            all(it.body[:1] == [1] for it in grammar.rules if it.left == left) for left in lefts
+        )
+    )
+
+
 def compare(way, grammar, lists, ycc):
     """Both parsers of a grammar on lists of tokens."""
     with tempfile.TemporaryDirectory() as folder:
@@ -206,8 +231,14 @@ def compare(way, grammar, lists, ycc):
             return
         for given in lists:
             wanted = steps_of(told(peer, given), way.steps)
+            if not wanted or wanted[-1][0] != "=":
+                # it reduces without an end
+                continue
             made = own_steps(told(own, given), way)
-            if made != wanted:
+            wanted, made = (
+                [it for it in both if it[0] not in way.leaves_out] for both in (wanted, made)
+            )
+            if made != wanted and not is_by_design(way, wanted, made):
                 names = " ".join(grammar.names[it] for it in given)
                 both = f"{way.peer[0]}:\n{wanted}\nycc:\n{made}"
                 raise Differs(f"{way.name}\n{grammar.text}\n{names}\n{both}")
@@ -232,7 +263,8 @@ def main(words):
     for _ in range(given.drawn):
         grammar = reduced(rng)
         lists = list(lists_of(grammar, rng))
-        jobs += [(way, grammar, lists, given.programs["ycc"]) for way in ways]
+        fits = (it for it in ways if is_for(it, grammar))
+        jobs += [(way, grammar, lists, given.programs["ycc"]) for way in fits]
     with ThreadPoolExecutor(os.cpu_count()) as pool:
         for job, lines in zip(jobs, pool.map(wrong, jobs)):
             tally.take(job[0].name, lines)

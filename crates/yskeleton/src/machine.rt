@@ -30,7 +30,7 @@ YYPARSE_DECL()
   /* Where an error begins and ends. */
   YYLTYPE yyerror_range[3];
 @if bison
-@if most
+@if again
 @else
   /* How deep the stack is where its top is an `error` that stands for what is discarded too. */
   size_t yyerrdepth = 0;
@@ -271,7 +271,7 @@ yyerrlab:
       YYSTEP ('d', yychar);
 @if locations
 @if bison
-@if most
+@if again
 @else
       if (yyerrdepth == YY_CAST (size_t, yyssp - yyss))
         {
@@ -284,10 +284,9 @@ yyerrlab:
 @end
 @destroys       YYDESTRUCT (YY_CAST (int, yytoken), &yylval, &yylloc);
       yychar = YYNOTOKEN;
-@if most
+@if again
       goto yyrecover;
 @else
-@lac       yylooked = 0;
       goto yyloop;
 @end
     }
@@ -378,7 +377,7 @@ yyrecover:
   YYLLOC_DEFAULT (yyloc, yyerror_range, 2);
   *++yylsp = yyloc;
 @if bison
-@if most
+@if again
 @else
   yyerrdepth = YY_CAST (size_t, yyssp - yyss) + 1;
 @end

@@ -187,6 +187,11 @@ impl<'a> Style<'a> {
         self.options.lac && self.is_bison()
     }
 
+    /// Whether entries are taken off the stack again after a token was discarded, as bison's do.
+    pub fn pops_again(&self) -> bool {
+        self.is_most() || self.looks_ahead()
+    }
+
     /// Whether tokens that could come are asked for.
     pub fn asks(&self) -> bool {
         self.wishes.speaks || self.errors() != Errors::Simple
@@ -237,7 +242,7 @@ impl<'a> Style<'a> {
             "verbose" => self.errors() == Errors::Verbose,
             "custom" => self.is_custom(),
             "lists" => self.lists(),
-            "most" => self.is_most(),
+            "again" => self.pops_again(),
             "lac" => self.looks_ahead(),
             "asks" => self.asks(),
             "rows" => self.has_rows(),
