@@ -1,2 +1,6 @@
+%token IF ELSE ID
 %%
-s : ;
+s : IF ID s
+  | IF ID s ELSE s
+  | ID
+  ;
