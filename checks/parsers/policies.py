@@ -1,4 +1,4 @@
-"""Compares parsers that `ycc` makes, under each policy of default reductions, with bison's and byacc's.
+"""Compares parsers that `ycc` makes with those of bison and byacc, under their default reductions.
 
     policies [--seed N] [--drawn N] [ycc=PATH]
 
@@ -6,7 +6,8 @@ Over N grammars drawn at random (40) and lists of tokens for each, right and wro
 make the steps of bison's under `most` and under `consistent` with `parse.lac full`, with the same
 texts of errors, and under `sole` those of byacc's: when a token is read, what is shifted and
 reduced, what is popped and discarded after an error, and how a parse ends. The traces of the peers
-tell their steps. `parsers` compares `consistent` with `ystep`. The last line is `N passed, M failed`.
+tell their steps. `parsers` compares `consistent` with `ystep`. The last line is
+`N passed, M failed`.
 """
 import os
 import random
@@ -200,7 +201,7 @@ def lists_of(grammar, rng):
 
 
 def is_by_design(way, wanted, made):
-    """Whether steps differ as the manual says: bison tells of an error before it reads a token where
+    """Whether steps differ as they may: bison tells of an error before it reads a token where
     `%nonassoc` leaves a state nothing; byacc's parser returns 1 at the end after a discard."""
     if way.steps is BISON:
         return "e syntax error" in wanted
