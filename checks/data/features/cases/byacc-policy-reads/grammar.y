@@ -2,6 +2,7 @@
 #include "plain.h"
 %}
 %token NUMBER
+%expect 0
 %left '+'
 %left '*'
 %%
