@@ -154,22 +154,29 @@ fn newer(name: &[u8]) -> Option<&'static str> {
     None
 }
 
-/// What is to be said of a variable that has another name now, with this directive.
-fn old_define<'a>(seen: Seen<'a>, lexemes: &[Lexeme], now: &'static str) -> Finding<'a> {
-    let (mut better, mut at) = (plain(now), 0);
-    let mut old: &'a [u8] = b"";
-    if let [word, name, rest @ ..] = lexemes {
-        at = word.span.from;
-        old = between(seen, word, rest.first().unwrap_or(name));
-        if let Some(value) = rest.first() {
-            better.before = " ";
-            better.part = match is_text(value.kind) {
-                true => inside(seen.source, value),
-                false => seen.text(value),
-            };
-        }
-    }
-    warning(Kind::Deprecated, at, What::Old(old, better))
+/// What is to be said of a variable of this name that has another one now, with this directive and
+/// with its value, where it has one.
+fn old_define<'a>(
+    seen: Seen<'a>,
+    (word, name): (&Lexeme, &Lexeme),
+    value: Option<&Lexeme>,
+    now: &'static str,
+) -> Finding<'a> {
+    let old = between(seen, word, value.unwrap_or(name));
+    let better = match value {
+        None => plain(now),
+        Some(value) => Better {
+            word: now,
+            before: " ",
+            part: if is_text(value.kind) {
+                inside(seen.source, value)
+            } else {
+                seen.text(value)
+            },
+            behind: "",
+        },
+    };
+    warning(Kind::Deprecated, word.span.from, What::Old(old, better))
 }
 
 /// Finds what is to be said of a variable that is set; those that were set before are among these
@@ -187,7 +194,7 @@ pub fn find_in_define<'a>(
     let own = seen.text(name);
     let new = newer(own);
     if let Some(word_now) = new {
-        found.push(old_define(seen, lexemes, word_now))?;
+        found.push(old_define(seen, (word, name), rest.first(), word_now))?;
     }
     let known = match new {
         Some(word_now) => word_now.as_bytes().get(8..).unwrap_or(own),
