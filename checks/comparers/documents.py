@@ -17,7 +17,6 @@ import tempfile
 from itertools import takewhile
 from pathlib import Path
 
-from checks.comparers.ambiguities import NO_OFFER
 from checks.comparers.conflicts import GIVEN_UP, HEAD, lists_in, parts_of
 from checks.shared.arguments import asked
 from checks.shared.grammars import productive
@@ -277,13 +276,13 @@ def without_places(line):
     return f"note: {found[3]}" if found else line
 
 
-def wrong_offers(parts, causes):
-    """What is wrong with what is offered: a block says why nothing is where its cause has none."""
-    offers = {cause["kinds"][0] + 1: cause["offer"] for cause in causes}
-    for part in parts:
-        offer = offers.get(int(NUMBER.match(part[0])[1]))
-        if offer and (NO_OFFER in part) != (offer != "hints"):
-            return f"{part}, told {offer}"
+def wrong_offers(causes):
+    """What is wrong with what is offered: hints for a sentence with two trees, and none where each
+    rival has one of its own."""
+    for cause in causes:
+        is_known = cause["ambiguous"] or cause["sentences"]
+        if is_known and (cause["offer"] == "hints") != cause["ambiguous"]:
+            return f"offered {cause}"
     return None
 
 
@@ -295,7 +294,7 @@ def wrong_conflicts(source, text, found, diagnostics):
     wrong = wrong_counts(text, found) or wrong_columns(source, kinds)
     wrong = wrong or wrong_causes(found, diagnostics) or wrong_spots(source, diagnostics)
     wrong = wrong or wrong_warnings(text, diagnostics) or wrong_places(parts, kinds, text)
-    wrong = wrong or wrong_offers(parts, found["causes"])
+    wrong = wrong or wrong_offers(found["causes"])
     return wrong or next(filter(None, (wrong_block(it, kinds) for it in parts)), None)
 
 

@@ -184,12 +184,13 @@ impl Ambiguities {
     }
 
     /// What can be found for two rivals: where one way allows both, a sentence with two trees, or
-    /// else one for each on that way; where none does, a sentence for each.
+    /// else, where these are wanted, one for each on that way; where none does, a sentence for each.
     pub fn seek(
         &mut self,
         tables: &Tables,
         finder: &mut Finder,
         (rivals, are_both): (Rivals, bool),
+        wants_each: bool,
     ) -> Made<Answer> {
         let mut answer = Answer {
             twins: None,
@@ -197,6 +198,9 @@ impl Ambiguities {
             steps: None,
         };
         let choices = [rivals.first, Choice::Reduce(rivals.second)];
+        if !are_both && !wants_each {
+            return Ok(answer);
+        }
         if !are_both {
             for choice in choices {
                 self.add_alone(tables, finder, (rivals, choice), &mut answer)?;
@@ -212,7 +216,7 @@ impl Ambiguities {
                 way: &way,
             };
             self.seek_twins(scene, &mut answer)?;
-            if answer.twins.is_none() {
+            if answer.twins.is_none() && wants_each {
                 for choice in choices {
                     self.add(scene, choice, &mut answer)?;
                 }

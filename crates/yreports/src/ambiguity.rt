@@ -36,14 +36,14 @@ fn are_both(finding: &Finding, rivals: Rivals) -> Option<bool> {
     }
 }
 
-/// What can be found for the first conflict of a block: for what is taken and each of the first
-/// rules beside it, up to one with which there is a sentence with two trees.
+/// What can be found for a conflict: for what is taken and each of the first rules beside it, up to
+/// one with which there is a sentence with two trees; a sentence for each where these are wanted.
 fn answers_of(
     alloc: Global,
     seeker: &mut Seeker<'_>,
     found: &mut Ambiguities,
-    entry: &Entry,
-    finding: &Finding,
+    (entry, finding): (&Entry, &Finding),
+    wants_each: bool,
 ) -> Made<Vec<Answer>> {
     let mut answers = Vec::new(alloc);
     for rule in entry.kind.others().iter().take(MOST_RULES) {
@@ -59,7 +59,8 @@ fn answers_of(
             continue;
         };
         let tables = seeker.session.tables();
-        let answer = found.seek(tables, &mut seeker.finder, (rivals, are_both))?;
+        let asked = (rivals, are_both);
+        let answer = found.seek(tables, &mut seeker.finder, asked, wants_each)?;
         let is_last = answer.twins.is_some();
         answers.push(answer)?;
         if is_last {
@@ -83,7 +84,7 @@ pub fn block_answers(
     block: &Block,
     finding: &Finding,
 ) -> io::Result<Vec<Answer>> {
-    let answers = answers_of(alloc, seeker, found, &block.first, finding)?;
+    let answers = answers_of(alloc, seeker, found, (&block.first, finding), true)?;
     let mut left = if answers.is_empty() || are_twins(&answers) {
         0
     } else {
@@ -96,7 +97,7 @@ pub fn block_answers(
             }
             left = left.saturating_sub(1);
             let other = seeker.find(&entry.kind, entry.group)?;
-            let others = answers_of(alloc, seeker, found, entry, &other)?;
+            let others = answers_of(alloc, seeker, found, (entry, &other), false)?;
             if are_twins(&others) {
                 return Ok(others);
             }
