@@ -25,7 +25,8 @@ from checks.shared.places import TOP
 from checks.shared.tally import Tally, sum_of
 
 QUICK = ["rings"], ["fault-words"], ["trace"]
-# Each comparer draws for some seconds.
+# Each comparer draws for some seconds, and no more turns than were looked at before: a faster
+# machine finds nothing that a slower one didn't.
 SECONDS = "--seconds=25"
 RUNNERS = (
     ["mutants"],
@@ -36,17 +37,17 @@ RUNNERS = (
     ["allocations"],
     ["parsers"],
     ["drivers", "--sessions=200", "--tables=2000"],
-    ["compare", SECONDS],
-    ["conflicts", SECONDS],
-    ["ambiguities", SECONDS],
-    ["documents", SECONDS],
-    ["hints", SECONDS],
-    ["coverage", SECONDS],
-    ["texts", SECONDS],
+    ["compare", SECONDS, "--turns=1000"],
+    ["conflicts", SECONDS, "--turns=1000"],
+    ["ambiguities", SECONDS, "--turns=800"],
+    ["documents", SECONDS, "--turns=120"],
+    ["hints", SECONDS, "--turns=800"],
+    ["coverage", SECONDS, "--turns=600"],
+    ["texts", SECONDS, "--turns=300"],
     ["verdicts"],
-    ["errors", SECONDS],
+    ["errors", SECONDS, "--turns=1000"],
     ["faults", "--count=50"],
-    ["cells", SECONDS],
+    ["cells", SECONDS, "--turns=600"],
     ["pages"],
 )
 # What some of them need beside a C compiler; without it they are skipped.
