@@ -389,6 +389,12 @@ Build-Depends-Arch: byacc [linux-any]
         given = SimpleNamespace(words=[], most=0.003, seed=1)
         self.assertEqual([it.name for it in drawn.drawn(drawn.users(apt), given)], ["three"])
 
+    def test_tokens(self):
+        """The numbers of tokens, as bison, byacc and we write them."""
+        texts = "    A = 258,     /* A  */\n    B = 259      /* \"b\"  */\n", "#define A 258\n#define B 259\n"
+        for text in (*texts, "  YYEMPTY = -2,\n  A = 258,\n  B = 259\n};\n"):
+            self.assertEqual(drawn.TOKEN.findall(text), [("A", "258"), ("B", "259")])
+
     def test_outside(self):
         """What asks for another parser, and what only speaks of one."""
         for text, name in (
