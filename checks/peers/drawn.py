@@ -44,7 +44,7 @@ OUTSIDE = {
 }
 # Comments, strings and code, in which no directive stands.
 ASIDE = re.compile(rb"/\*.*?\*/|//[^\n]*|%\{.*?%\}", re.S)
-TOKEN = re.compile(r"(?m)^(?:#[ \t]*define\s+|\s+)(\w+)\s*(?:=\s*)?(\d+)\s*,?\s*(?:/\*.*)?$")
+TOKEN = re.compile(r"(?m)^(?:#define\s+|\s+)(\w+)\s*(?:=\s*)?(\d+)\s*,?\s*(?:/\*.*)?$")
 ERROR = re.compile(r"(?m)^[^\n:]*:(?:\d+:)*\s*(?:fatal )?error: (.*)$")
 LACKING = re.compile(r"fatal error: (\S+): No such file")
 # The words for a parser that is its peer's: as a whole, or but for what neither compiles.
