@@ -409,16 +409,19 @@ Build-Depends-Arch: byacc [linux-any]
 
     def test_verdicts(self):
         """A refusal, other numbers and an error more of ours; errors of both don't count."""
-        peer = drawn.Made(tokens=(("A", "258"),), errors=("x", "x"))
+        peer = drawn.Made(tokens=(("A", "258"),), errors=((True, "x"), (True, "x")))
         self.assertEqual(drawn.verdict(peer, peer)[0], drawn.PARTLY)
         self.assertEqual(drawn.verdict(drawn.Made(tokens=peer.tokens), peer)[0], drawn.PARTLY)
         whole = drawn.Made(tokens=peer.tokens)
         self.assertEqual(drawn.verdict(whole, whole)[0], drawn.ALIKE)
-        for ours, word in (
-            (drawn.Made(refusal="no"), "refused"),
-            (drawn.Made(tokens=(("A", "259"),)), "other tokens"),
-            (drawn.Made(tokens=peer.tokens, errors=("x", "x", "x")), "doesn't compile"),
-            (drawn.Made(tokens=peer.tokens, errors=("y",)), "doesn't compile"),
+        lost = drawn.Made(tokens=peer.tokens, errors=(*peer.errors, (False, "y")))
+        self.assertEqual(drawn.verdict(lost, peer)[0], drawn.PARTLY)
+        for ours, theirs, word in (
+            (drawn.Made(refusal="no"), peer, "refused"),
+            (drawn.Made(tokens=(("A", "259"),)), peer, "other tokens"),
+            (drawn.Made(tokens=peer.tokens, errors=((True, "x"),) * 3), peer, "doesn't compile"),
+            (drawn.Made(tokens=peer.tokens, errors=((True, "y"),)), peer, "doesn't compile"),
+            (lost, whole, "doesn't compile"),
         ):
-            self.assertEqual(drawn.verdict(ours, peer)[0], word)
+            self.assertEqual(drawn.verdict(ours, theirs)[0], word)
         self.assertEqual(drawn.verdict(peer, drawn.Made(refusal="no"))[0], "not counted")
