@@ -208,13 +208,28 @@ def is_by_design(way, wanted, made):
     return wanted[-3:] == ["d", "l", "= 1"] and made == [*wanted[:-1], "= 0"]
 
 
+def reduces_where_it_accepts(grammar):
+    """Whether a rule can be reduced in the state that accepts."""
+    start = grammar.rules[0].body[0]
+    begun = [it.body for it in grammar.rules[1:] if it.body[:1] == [start]]
+    ahead, more = set(), {it[1] for it in begun if len(it) > 1}
+    while more:
+        ahead |= more
+        bodies = [it.body for it in grammar.rules if it.left in more]
+        if not all(bodies):
+            return True
+        more = {it[0] for it in bodies} - ahead
+    return any(len(it) == 1 for it in begun)
+
+
 def is_for(way, grammar):
     """Whether the grammar has the same default reductions by the peer: byacc gives a state none
-    that reduces at `error` alone."""
+    that reduces at `error` alone, and one to the state that accepts."""
     late = any(1 in rule.body[1:] for rule in grammar.rules)
     lefts = {rule.left for rule in grammar.rules}
     return way.steps is BISON or not (
         late
+        or reduces_where_it_accepts(grammar)
         or any(
             all(it.body[:1] == [1] for it in grammar.rules if it.left == left) for left in lefts
         )
