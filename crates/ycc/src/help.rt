@@ -15,18 +15,19 @@ Options; what is bison's counts in a call as bison or with --bison, what is byac
 
 /// Writes what an option is called.
 fn put_names(out: &mut Output, (letter, names, _, has, _, _): Known) {
-    let mut between = "";
+    let mut is_begun = letter.is_some();
     if let Some(letter) = letter {
         out.put("-");
         out.show(letter);
-        between = ", ";
     }
     for name in names.split(' ') {
         if !name.is_empty() {
-            out.put(between);
+            if is_begun {
+                out.put(", ");
+            }
             out.put("--");
             out.put(name);
-            between = ", ";
+            is_begun = true;
         }
     }
     match has {
@@ -64,22 +65,23 @@ fn put_option(out: &mut Output, known: Known) {
     }
 }
 
+/// Writes the options that are refused, or all others.
+fn put_options(out: &mut Output, are_refused: bool) {
+    for known in OPTIONS {
+        if matches!(known.4, Ask::Refused(_)) == are_refused {
+            put_option(out, known);
+        }
+    }
+}
+
 /// The list of options: those that do something, and those that are refused.
 pub fn help_text(alloc: Global) -> Output {
     let mut out = Output::new(alloc);
     out.put_bytes(USAGE);
     out.put(HEAD);
-    for known in OPTIONS {
-        if !matches!(known.4, Ask::Refused(_)) {
-            put_option(&mut out, known);
-        }
-    }
+    put_options(&mut out, false);
     out.put("Refused:\n");
-    for known in OPTIONS {
-        if matches!(known.4, Ask::Refused(_)) {
-            put_option(&mut out, known);
-        }
-    }
+    put_options(&mut out, true);
     out.put("Kinds of warnings:\n  ");
     out.put(LISTED);
     out

@@ -25,7 +25,7 @@ mod warnings;
 mod words;
 
 use crate::against::refuse_others;
-use crate::ending::{Ending, File, outside, say, tell};
+use crate::ending::{Ending, File, outside, say};
 use crate::help::help_text;
 use crate::making::write_files;
 use crate::reader::{Wrong, asked_by};
@@ -115,8 +115,13 @@ fn refuse(rt: &HostRuntime, wrong: Wrong<'_>) -> Ending {
     match wrong {
         Wrong::NoGrammar => Ending::Words,
         Wrong::Word(dashes, name, why) => {
-            tell(rt, &["ycc: ", dashes, name, ": ", why]);
-            Ending::Words
+            let mut out = Output::new(rt.alloc());
+            out.put("ycc: ");
+            out.put(dashes);
+            out.put(name);
+            out.put(": ");
+            out.line(why);
+            say(rt, out, Ending::Words)
         }
         Wrong::Memory => Ending::Memory,
     }

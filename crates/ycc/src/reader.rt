@@ -17,8 +17,8 @@ pub enum Wrong<'a> {
     Memory,
 }
 
-impl From<AllocError> for Wrong<'_> {
-    fn from(_refused: AllocError) -> Wrong<'static> {
+impl<'a> From<AllocError> for Wrong<'a> {
+    fn from(_refused: AllocError) -> Wrong<'a> {
         Wrong::Memory
     }
 }

@@ -48,9 +48,12 @@ fn put_word(out: &mut Output, what: What<'_>) {
         What::TypedToken => out.put("POSIX yacc reserves %type to nonterminals"),
         What::TypedAction => out.put("POSIX Yacc does not support typed midrule actions"),
         What::Old(old, better) => {
-            let (word, before) = (better.word.as_bytes(), better.before.as_bytes());
-            out.put_pieces(&[b"deprecated directive: '", old, b"', use '", word, before]);
-            out.put_pieces(&[better.part, better.behind.as_bytes(), b"'"]);
+            out.put_pieces(&[b"deprecated directive: '", old, b"', use '"]);
+            out.put(better.word);
+            out.put(better.before);
+            out.put_bytes(better.part);
+            out.put(better.behind);
+            out.put("'");
         }
         What::WantsWord(name) => {
             out.put_pieces(&[b"%define variable '", name, b"' requires keyword values"]);
