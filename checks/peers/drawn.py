@@ -148,7 +148,8 @@ def compiled(room, file, package):
             break
         (room / lacking[1]).parent.mkdir(parents=True, exist_ok=True)
         (room / lacking[1]).write_text("")
-    return tuple(sorted((name != "parser.c", text) for name, text in ERROR.findall(said)))
+    told = ERROR.findall(said)
+    return tuple(sorted((not re.search(r"\bparser\.[ch]$", name), text) for name, text in told))
 
 
 def made_by(command, room, file, package):
