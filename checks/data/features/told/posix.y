@@ -8,11 +8,11 @@
 %token <i> D
 %precedence LOW
 %nterm <i> t
-%type <i> D2
-%token D2
+%type <i> DE
+%token DE
 %union { int i; }
 %parse-param { int x }
 %expect 0
 %%
-s : a-b "c" | D t D2 { } | C <i>{ $$ = 1; } C { (void) $2; } %prec LOW ;
+s : a-b "c" | D t DE { } | C <i>{ $$ = 1; } C { (void) $2; } %prec LOW ;
 t : %empty { $$ = 0; } ;
