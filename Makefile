@@ -25,7 +25,7 @@
 # make imports    imports grammars drawn at random, for a minute, and those of some source packages of Debian, by the programs that make build left, and compares their tables with bison's; FILES="a.y b.y" or PACKAGES="bash" names others. It takes bison and a network
 # make hostile    runs both programs, proved, between devices that fail and on hostile files and streams, and ydebug on full disks and pipes that nobody reads
 # make edits      tries every mutant that the prover must refuse, also those that the gate leaves out, over the libraries that the gate left
-# make quick      what can run before anything is proved: the scenarios and the tests, built without proof, the tests of the checks, whether each mutant can be applied; some twenty minutes. It is not the gate
+# make quick      what can run before anything is proved: the scenarios and the tests, built without proof, the tests of the checks, whether each mutant can be applied; four minutes. It is not the gate
 # make selftest   gives each check wrong answers, which it has to catch; a minute and a half
 # make try-install   tries make install, uninstall and dist in an empty folder, by the programs that make build left
 # make test       the gate: every proof from nothing, the mutants, the tests, the stored runs, make selftest, the scenarios, make hostile, make refuse over three examples, the allocations of every session, the parsers, the drivers, each comparison for half a minute at most, and the pages where there is a browser
