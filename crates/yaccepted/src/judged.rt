@@ -14,7 +14,7 @@ use std::rt::Files;
 use yexplain::text::Bytes;
 use yfaults::opening::Opened;
 use yfiles::diagnostic::{Diagnostic, Diagnostics, Severity};
-use yfiles::reading::{LONGEST_INPUT, Limited, unwritten};
+use yfiles::reading::{LONGEST_INPUT, Limited, undone};
 use yfiles::writing::write_over;
 use yfrontend::notes::Source;
 
@@ -170,7 +170,7 @@ fn update<F: Files + AllocGlobal>(
     put_list(rt.alloc(), &mut text, grammar, list, found)?;
     match write_over(rt, path, &text) {
         Ok(()) => Ok(0),
-        Err(error) => unwritten(rt.alloc(), told, path, error),
+        Err(error) => undone(rt.alloc(), told, ("write", path), error),
     }
 }
 

@@ -17,26 +17,18 @@ pub enum Arguments {
     NoText(Vec<u8>),
 }
 
-/// The bytes of an argument, where there is one of this number.
-fn bytes_of<R: Env>(rt: &R, alloc: Global, number: usize) -> Result<Option<Vec<u8>>, AllocError> {
-    let mut bytes = vec![in alloc; 0; MOST_BYTES]?;
-    match rt.arg(number, &mut bytes) {
-        Ok(length) => {
-            bytes.truncate(length);
-            Ok(Some(bytes))
-        }
-        Err(FillError::TooLong) => Ok(Some(bytes)),
-        Err(FillError::NotPresent) => Ok(None),
-    }
-}
-
 /// The first argument that is no text; nothing where all are.
 fn no_text_in<R: Env>(rt: &R, alloc: Global) -> Result<Vec<u8>, AllocError> {
     for number in 0..usize::MAX {
-        match bytes_of(rt, alloc, number)? {
-            Some(bytes) if str::from_utf8(&bytes).is_err() => return Ok(bytes),
-            Some(_) => {}
-            None => break,
+        let mut bytes = vec![in alloc; 0; MOST_BYTES]?;
+        let length = match rt.arg(number, &mut bytes) {
+            Ok(length) => length,
+            Err(FillError::TooLong) => MOST_BYTES,
+            Err(FillError::NotPresent) => break,
+        };
+        bytes.truncate(length);
+        if str::from_utf8(&bytes).is_err() {
+            return Ok(bytes);
         }
     }
     Ok(Vec::new(alloc))

@@ -21,12 +21,8 @@ pub struct Breaking<W> {
     long: Vec<u8>,
 }
 
-/// How many columns a character takes; a control character takes none.
-fn width_of(c: char) -> usize {
-    UnicodeWidthChar::width(c).unwrap_or(0)
-}
-
-/// How many columns a text takes, but for words of the terminal's for colours.
+/// How many columns a text takes, but for words of the terminal's for colours; a control character
+/// takes none.
 fn columns_of(text: &[u8]) -> usize {
     let Ok(text) = str::from_utf8(text) else {
         return text.len();
@@ -38,7 +34,7 @@ fn columns_of(text: &[u8]) -> usize {
         } else if c == '\x1b' {
             is_colour = true;
         } else {
-            columns = columns.saturating_add(width_of(c));
+            columns = columns.saturating_add(c.width().unwrap_or(0));
         }
     }
     columns
@@ -46,8 +42,7 @@ fn columns_of(text: &[u8]) -> usize {
 
 /// How many spaces a text begins with.
 fn spaces_of(text: &[u8]) -> usize {
-    let other = text.iter().position(|b| *b != b' ');
-    other.unwrap_or(text.len())
+    text.iter().position(|b| *b != b' ').unwrap_or(text.len())
 }
 
 /// Writes so many spaces.
@@ -90,7 +85,7 @@ fn put_excerpt<W: Write>(out: &mut W, text: &str, place: usize, columns: usize) 
     let (mut first, mut column) = (0_usize, 0_usize);
     put_spaces(out, EXCERPT)?;
     for c in text.chars() {
-        let end = column.saturating_add(width_of(c));
+        let end = column.saturating_add(c.width().unwrap_or(0));
         if end.saturating_sub(first) > room {
             out.write_all(b"\n")?;
             if place < column && place >= first {

@@ -54,11 +54,6 @@ pub struct Categories {
 }
 
 impl Categories {
-    /// All categories, or none.
-    pub fn new(is_in: bool) -> Categories {
-        Categories { marks: [is_in; 6] }
-    }
-
     /// Whether a category is one of them.
     pub fn has(self, category: Category) -> bool {
         let mut marked = ALL.iter().zip(&self.marks);
@@ -97,8 +92,8 @@ impl Choice {
     /// first, and none makes a run fail. `None` where one of them is no name.
     pub fn of(shown: &[&str], strict: &[&str]) -> Option<Choice> {
         let mut choice = Choice {
-            shown: Categories::new(true),
-            strict: Categories::new(false),
+            shown: Categories { marks: [true; 6] },
+            strict: Categories { marks: [false; 6] },
         };
         for word in shown {
             let (name, is_in) = match word.strip_prefix("no-") {

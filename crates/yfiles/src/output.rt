@@ -1,5 +1,6 @@
 //! A text in memory, on its way to a file or a device.
 
+use crate::place::newlines;
 use std::alloc::{AllocError, Global};
 use std::fmt::Display;
 use std::io::{self, ErrorKind, Write};
@@ -153,15 +154,10 @@ impl Output {
 
     /// The line that comes next, counted from 1.
     pub fn next_line(&mut self) -> usize {
-        let mut lines = self.lines;
-        for byte in self.bytes.get(self.counted..).unwrap_or(&[]) {
-            if *byte == b'\n' {
-                lines = lines.saturating_add(1);
-            }
-        }
-        self.lines = lines;
+        let more = newlines(self.bytes.get(self.counted..).unwrap_or(&[]));
+        self.lines = self.lines.saturating_add(more);
         self.counted = self.bytes.len();
-        lines.saturating_add(1)
+        self.lines.saturating_add(1)
     }
 
     /// The whole text, where memory sufficed for it.

@@ -17,13 +17,6 @@ pub struct Spot {
     pub column: Option<usize>,
 }
 
-impl Spot {
-    /// A whole line.
-    pub fn of_line(line: usize) -> Spot {
-        Spot { line, column: None }
-    }
-}
-
 impl fmt::Display for Spot {
     fn fmt<W: fmt::Write>(&self, f: &mut fmt::Formatter<W>) -> fmt::Result {
         let line = self.line;
@@ -36,7 +29,13 @@ impl fmt::Display for Spot {
 
 /// How many newlines there are.
 pub fn newlines(bytes: &[u8]) -> usize {
-    bytes.iter().filter(|b| **b == b'\n').count()
+    let mut count = 0_usize;
+    for byte in bytes {
+        if *byte == b'\n' {
+            count = count.saturating_add(1);
+        }
+    }
+    count
 }
 
 /// What counts lines and columns, for one place of a text after the other.
@@ -83,36 +82,20 @@ pub struct Place<'a> {
     pub at: usize,
 }
 
-/// A character as it is shown: control characters but the tab as spaces.
-fn shown_char(c: char) -> char {
-    if c == '\t' || !c.is_control() { c } else { ' ' }
-}
-
 /// A part of a line as it is shown, and whether it is blank: then its columns alone are.
 #[derive(Clone, Copy)]
 struct Text<'a>(&'a [u8], bool);
 
 impl Text<'_> {
-    /// Writes a character, or as many blanks as it takes columns.
+    /// Writes a character, or as many blanks as it takes columns; a control character but the tab
+    /// is a space.
     fn put<W: fmt::Write>(&self, f: &mut fmt::Formatter<W>, c: char) -> fmt::Result {
+        let shown = if c == '\t' || !c.is_control() { c } else { ' ' };
         if !self.1 || c == '\t' {
-            return f.write_char(c);
+            return f.write_char(shown);
         }
-        for _ in 0..c.width().unwrap_or(1) {
+        for _ in 0..shown.width().unwrap_or(1) {
             f.write_char(' ')?;
-        }
-        Ok(())
-    }
-
-    /// Writes a text that isn't UTF-8.
-    fn put_bytes<W: fmt::Write>(&self, f: &mut fmt::Formatter<W>) -> fmt::Result {
-        for byte in self.0 {
-            let shown = if *byte < 128 {
-                shown_char(char::from(*byte))
-            } else {
-                '?'
-            };
-            self.put(f, shown)?;
         }
         Ok(())
     }
@@ -121,16 +104,20 @@ impl Text<'_> {
 impl fmt::Display for Text<'_> {
     fn fmt<W: fmt::Write>(&self, f: &mut fmt::Formatter<W>) -> fmt::Result {
         let Ok(text) = str::from_utf8(self.0) else {
-            return self.put_bytes(f);
+            for byte in self.0 {
+                let c = if *byte < 128 { char::from(*byte) } else { '?' };
+                self.put(f, c)?;
+            }
+            return Ok(());
         };
         for c in text.chars() {
-            self.put(f, shown_char(c))?;
+            self.put(f, c)?;
         }
         Ok(())
     }
 }
 
-impl<'a> Place<'a> {
+impl Place<'_> {
     /// The line and the column of the place, both counted from 1; columns are bytes.
     pub fn spot(self) -> Spot {
         let (line, column) = Spots::new(self.source).reach(self.at.min(self.source.len()));
@@ -138,23 +125,17 @@ impl<'a> Place<'a> {
         Spot { line, column }
     }
 
-    /// The parts of its line before and after the place.
-    fn parts(self) -> (&'a [u8], &'a [u8]) {
-        let before = self.source.get(..self.at).unwrap_or(self.source);
-        let after = self.source.get(self.at..).unwrap_or(&[]);
-        let newline = before.iter().rposition(|b| *b == b'\n');
-        let start = newline.map_or(0, |at| at.saturating_add(1));
-        let end = after.iter().position(|b| *b == b'\n');
-        let end = end.unwrap_or(after.len());
-        (
-            before.get(start..).unwrap_or(&[]),
-            after.get(..end).unwrap_or(after),
-        )
-    }
-
     /// Writes the text of the line, and a caret under the place.
     pub fn put_text<W: Write>(self, out: &mut W, caret: bool) -> io::Result<()> {
-        let (before, after) = self.parts();
+        let before = self.source.get(..self.at).unwrap_or(self.source);
+        let after = self.source.get(self.at..).unwrap_or(&[]);
+        let start = match before.iter().rposition(|b| *b == b'\n') {
+            Some(newline) => newline.saturating_add(1),
+            None => 0,
+        };
+        let before = before.get(start..).unwrap_or(&[]);
+        let end = after.iter().position(|b| *b == b'\n');
+        let after = after.get(..end.unwrap_or(after.len())).unwrap_or(after);
         if before.is_empty() && after.is_empty() {
             return Ok(());
         }

@@ -28,29 +28,22 @@ pub fn first_bytes<F: Files + AllocGlobal>(rt: &F, path: &str, most: u64) -> io:
     Ok(bytes)
 }
 
-/// Bytes, where they aren't more than so many.
-fn within(bytes: Vec<u8>, most: u64) -> Option<Vec<u8>> {
-    if bytes.len() as u64 > most {
-        None
-    } else {
-        Some(bytes)
-    }
-}
-
 /// All bytes of a reader, or `None` where it has more than so many; one more is read at most.
 pub fn all_bytes<R: Read>(alloc: Global, reader: &mut R, most: u64) -> io::Result<Option<Vec<u8>>> {
     let mut bytes = Vec::new(alloc);
     let mut first = reader.by_ref().take(most.saturating_add(1));
     first.read_to_end(&mut bytes)?;
-    Ok(within(bytes, most))
+    if bytes.len() as u64 > most {
+        return Ok(None);
+    }
+    Ok(Some(bytes))
 }
 
 impl Limited<'_> {
     /// All bytes of the file, or `None` where it has more than may be taken; one more is read at
     /// most.
     pub fn bytes<F: Files + AllocGlobal>(self, rt: &F) -> io::Result<Option<Vec<u8>>> {
-        let bytes = first_bytes(rt, self.path, self.most.saturating_add(1))?;
-        Ok(within(bytes, self.most))
+        all_bytes(rt.alloc(), &mut fs::open(rt, self.path)?, self.most)
     }
 
     /// That the file has more bytes than may be taken, and how many it has, where that can be told,
@@ -89,13 +82,14 @@ impl Limited<'_> {
                 told.add(self.too_long(rt, is_raised)?)?;
                 Ok(Err(1))
             }
-            Err(error) => unread(rt.alloc(), told, self.path, error).map(Err),
+            Err(error) => undone(rt.alloc(), told, ("read", self.path), error).map(Err),
         }
     }
 }
 
-/// Says what can't be done with a file, and gives the exit status; only no memory stays an error.
-fn undone(
+/// Says that a file can't be read or written, and gives the exit status; only no memory stays an
+/// error.
+pub fn undone(
     alloc: Global,
     told: &mut Diagnostics,
     (what, path): (&str, &str),
@@ -108,24 +102,4 @@ fn undone(
     write!(one.message, "cannot {what} {path}")?;
     told.add(one)?;
     Ok(3)
-}
-
-/// Says that a file can't be read, and gives the exit status; only no memory stays an error.
-pub fn unread(
-    alloc: Global,
-    told: &mut Diagnostics,
-    path: &str,
-    error: io::Error,
-) -> io::Result<u8> {
-    undone(alloc, told, ("read", path), error)
-}
-
-/// Says that a file can't be written, likewise.
-pub fn unwritten(
-    alloc: Global,
-    told: &mut Diagnostics,
-    path: &str,
-    error: io::Error,
-) -> io::Result<u8> {
-    undone(alloc, told, ("write", path), error)
 }

@@ -9,19 +9,11 @@ use std::rt::Files;
 /// The most links that are followed to a file that isn't there.
 const MOST_LINKS: usize = 40;
 
-/// Whether the numbers of files are known.
-fn is_numbered(there: &Metadata) -> bool {
-    there.dev() != 0 || there.ino() != 0
-}
-
 /// Whether two files are known to be one, by the numbers of their devices and their own; `None`
 /// where these aren't known.
 fn are_one(one: &Metadata, two: &Metadata) -> Option<bool> {
-    if is_numbered(one) && is_numbered(two) {
-        Some(one.dev() == two.dev() && one.ino() == two.ino())
-    } else {
-        None
-    }
+    let are_known = (one.dev() != 0 || one.ino() != 0) && (two.dev() != 0 || two.ino() != 0);
+    are_known.then_some(one.dev() == two.dev() && one.ino() == two.ino())
 }
 
 /// The folder of a path, and the name in it.
@@ -54,31 +46,30 @@ fn behind_links<F: Files + AllocGlobal>(rt: &F, path: &str) -> io::Result<String
     Ok(found)
 }
 
-/// Whether two files that aren't there would be one: by their folders, and their names in them.
-fn would_be_one<F: Files + AllocGlobal>(rt: &F, path: &str, other: &str) -> io::Result<bool> {
-    let (path, other) = (behind_links(rt, path)?, behind_links(rt, other)?);
-    let (folder, name) = folder_and_name(&path);
-    let (other_folder, other_name) = folder_and_name(&other);
-    match (fs::metadata(rt, folder), fs::metadata(rt, other_folder)) {
-        (Ok(one), Ok(two)) => match are_one(&one, &two) {
-            Some(is_folder) => Ok(is_folder && name == other_name),
-            None => Ok(path == other),
-        },
-        _ => Ok(path == other),
-    }
-}
-
 /// Whether two paths mean one plain file: by the numbers of its device and of the file, and where
 /// neither is there yet, by those of its folder and by its name, behind links. Where numbers aren't
 /// known, the paths themselves tell.
 pub fn is_same_file<F: Files + AllocGlobal>(rt: &F, path: &str, other: &str) -> io::Result<bool> {
     match (fs::metadata(rt, path), fs::metadata(rt, other)) {
-        (Ok(one), Ok(two)) => match are_one(&one, &two) {
-            Some(is_one) => Ok(is_one && one.is_file()),
-            None => Ok(path == other),
-        },
-        (Err(_), Err(_)) => would_be_one(rt, path, other),
-        _ => Ok(false),
+        (Ok(one), Ok(two)) => {
+            return match are_one(&one, &two) {
+                Some(is_one) => Ok(is_one && one.is_file()),
+                None => Ok(path == other),
+            };
+        }
+        (Err(_), Err(_)) => {}
+        _ => return Ok(false),
+    }
+    let (path, other) = (behind_links(rt, path)?, behind_links(rt, other)?);
+    let (folder, name) = folder_and_name(&path);
+    let (other_folder, other_name) = folder_and_name(&other);
+    let are_folders_one = match (fs::metadata(rt, folder), fs::metadata(rt, other_folder)) {
+        (Ok(one), Ok(two)) => are_one(&one, &two),
+        _ => None,
+    };
+    match are_folders_one {
+        Some(is_one) => Ok(is_one && name == other_name),
+        None => Ok(path == other),
     }
 }
 

@@ -26,12 +26,6 @@ fn make_beside<F: Files + AllocGlobal>(rt: &F, path: &str) -> io::Result<(F::Fil
     Err(io::Error::from(ErrorKind::Other))
 }
 
-/// Writes a whole text.
-fn fill<D: Write>(device: &mut D, text: &[u8]) -> io::Result<()> {
-    device.write_all(text)?;
-    device.flush()
-}
-
 /// Writes a text to a file that was made, and gives it the rights of the one that it replaces, and
 /// that one's name.
 fn complete<F: Files>(
@@ -41,7 +35,8 @@ fn complete<F: Files>(
     path: &str,
     text: &[u8],
 ) -> io::Result<()> {
-    fill(device, text)?;
+    device.write_all(text)?;
+    device.flush()?;
     if let Some(rights) = rights {
         // where that can't be done, the file has those of any new one
         let _ = device.set_permissions(rights);
@@ -74,7 +69,11 @@ pub fn write_over<F: Files + AllocGlobal>(rt: &F, path: &str, text: &[u8]) -> io
             OpenOptions::new().write(true).open(rt, path)?;
             replace(rt, path, text, Some(there.permissions()))
         }
-        Ok(_) => fill(&mut fs::create(rt, path)?, text),
+        Ok(_) => {
+            let mut device = fs::create(rt, path)?;
+            device.write_all(text)?;
+            device.flush()
+        }
         Err(error) if error.kind() == ErrorKind::NotFound => replace(rt, path, text, None),
         Err(error) => Err(error),
     }
@@ -92,14 +91,17 @@ pub fn write_new<F: Files + AllocGlobal>(rt: &F, path: &str, text: &[u8]) -> io:
     written
 }
 
-/// Writes a text to the file of a path, and says so where it can't be written. The exit status is
-/// the answer; only no memory stays an error.
+/// Writes a text to the file of a path, where one is given, and says so where it can't be written.
+/// The exit status is the answer; only no memory stays an error.
 pub fn put_file<F: Files + AllocGlobal, E: Write>(
     rt: &F,
-    path: &str,
+    path: Option<&str>,
     text: &[u8],
     errors: &mut E,
 ) -> io::Result<u8> {
+    let Some(path) = path else {
+        return Ok(0);
+    };
     match write_over(rt, path, text) {
         Ok(()) => Ok(0),
         Err(error) if error.kind() == ErrorKind::OutOfMemory => Err(error),
@@ -107,19 +109,6 @@ pub fn put_file<F: Files + AllocGlobal, E: Write>(
             writeln!(errors, "ydebug: cannot write {path}")?;
             Ok(3)
         }
-    }
-}
-
-/// Writes a text likewise where a path is given, and nothing where none is.
-pub fn put_asked<F: Files + AllocGlobal, E: Write>(
-    rt: &F,
-    path: Option<&str>,
-    text: &[u8],
-    errors: &mut E,
-) -> io::Result<u8> {
-    match path {
-        Some(path) => put_file(rt, path, text, errors),
-        None => Ok(0),
     }
 }
 
@@ -131,8 +120,8 @@ pub fn put_output<F: Files + AllocGlobal, W: Write, E: Write>(
     out: &mut W,
     errors: &mut E,
 ) -> io::Result<u8> {
-    match path {
-        Some(path) => put_file(rt, path, text, errors),
-        None => out.write_all(text).map(|()| 0),
+    if path.is_none() {
+        out.write_all(text)?;
     }
+    put_file(rt, path, text, errors)
 }

@@ -14,7 +14,7 @@ use yfaults::opening::{Opened, Trouble, add_trouble, grammar_bytes};
 use yfiles::category::{Categories, Category};
 use yfiles::diagnostic::{Diagnostic, Diagnostics, Severity};
 use yfiles::place::Place;
-use yfiles::reading::unread;
+use yfiles::reading::undone;
 use yfiles::same::refused_outputs;
 use yfiles::writing::put_output;
 use yforeign::directive::is_imported;
@@ -217,7 +217,7 @@ fn imported_of<F: Files + AllocGlobal>(
     let alloc = rt.alloc();
     let bytes = match grammar_bytes(rt, path) {
         Ok(bytes) => bytes,
-        Err(error) => return unread(alloc, told, path, error).map(Err),
+        Err(error) => return undone(alloc, told, ("read", path), error).map(Err),
     };
     let source = Source {
         path,

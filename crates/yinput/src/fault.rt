@@ -57,7 +57,10 @@ fn ungiven(
 ) -> io::Result<Diagnostic> {
     let mut mentions = opened.lines.mentions().iter();
     let mention = mentions.find(|it| it.symbol == token);
-    let first = mention.map_or(Spot::of_line(1), |it| it.spot);
+    let first = match mention {
+        Some(it) => it.spot,
+        None => Spot { line: 1, column: None },
+    };
     let name = Name(grammar_of(&opened.tables), token);
     let mut one = Diagnostic::new(alloc, Some(grammar.path), Some(first))?;
     write!(

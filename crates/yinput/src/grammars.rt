@@ -8,7 +8,7 @@ use std::rt::Files;
 use yexplain::reads::{Made, body_of, grammar_of, set};
 use yfaults::opening::{Opened, grammar_bytes};
 use yfiles::diagnostic::Diagnostics;
-use yfiles::reading::unread;
+use yfiles::reading::undone;
 use yfrontend::import::{Dialect, Foreign, Read, open_grammar};
 use yfrontend::notes::Source;
 use ysymbols::Grammar;
@@ -60,7 +60,7 @@ pub fn open_told<F: Files + AllocGlobal>(
     let (alloc, path) = (rt.alloc(), file.path);
     let bytes = match grammar_bytes(rt, path) {
         Ok(bytes) => bytes,
-        Err(error) => return unread(alloc, told, path, error).map(Err),
+        Err(error) => return undone(alloc, told, ("read", path), error).map(Err),
     };
     let source = Source {
         path,

@@ -16,7 +16,7 @@ use yfaults::opening::Opened;
 use yfiles::diagnostic::Diagnostics;
 use yfiles::reading::Limited;
 use yfiles::same::refused_outputs;
-use yfiles::writing::{put_asked, put_file};
+use yfiles::writing::put_file;
 use yinput::language::{Language, LanguageFiles};
 use ylalr::END;
 use ylex::writer::Writer;
@@ -237,7 +237,7 @@ fn rewrite<F: Files + AllocGlobal, W: Write, E: Write>(
     let mut found = Found::new(alloc, language, messages)?;
     let mut text = Vec::new(alloc);
     let new = found.put(alloc, grammar, &mut text)?;
-    let status = put_file(rt, path, &text, errors)?;
+    let status = put_file(rt, Some(path), &text, errors)?;
     if status > 0 {
         return Ok(status);
     }
@@ -269,7 +269,7 @@ fn check<F: Files + AllocGlobal, W: Write, E: Write>(
             return Ok(1);
         }
     }
-    let status = put_asked(rt, asked.table, &data, errors)?;
+    let status = put_file(rt, asked.table, &data, errors)?;
     if status == 0 {
         out.write_all(&line)?;
         writeln!(out, "{}", if asked.complete { ", complete" } else { "" })?;

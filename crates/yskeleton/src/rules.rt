@@ -16,7 +16,7 @@ use yexplain::reads::grammar_of;
 use yfaults::opening::Opened;
 use yfiles::output::Output;
 use yfiles::same::refused_outputs;
-use yfiles::writing::put_asked;
+use yfiles::writing::put_file;
 use yinput::grammars::{GrammarFile, GrammarText, open_with_text};
 use yview::digest::digest_of;
 
@@ -70,8 +70,8 @@ fn put_named<F: Files + AllocGlobal, W: Write, E: Write>(
     put_header(&mut header, sheet);
     put_module(&mut module, sheet);
     let (header, module) = (header.into_bytes()?, module.into_bytes()?);
-    match put_asked(rt, asked.header, &header, errors)? {
-        0 => put_asked(rt, asked.python, &module, errors),
+    match put_file(rt, asked.header, &header, errors)? {
+        0 => put_file(rt, asked.python, &module, errors),
         status => Ok(status),
     }
 }
