@@ -3,7 +3,7 @@
 use crate::lines::is_inner;
 use crate::question::Question;
 use crate::reads::{action_of, conflict_of, level_of};
-use crate::rivals::{Kinds, Rivals, around};
+use crate::rivals::{Kinds, Rivals};
 use crate::supposed::{BOTTOM, TOP, place_of};
 use ylalr::END;
 use yprovenance::Candidate;
@@ -26,11 +26,6 @@ impl Words {
     /// Those with which the order of the lines chooses.
     pub fn both(self) -> Kinds {
         self.shifts.and(self.reduces)
-    }
-
-    /// Whether there is one.
-    fn any(self) -> bool {
-        self.shifts.any() || self.reduces.any()
     }
 }
 
@@ -97,30 +92,24 @@ pub enum Hint {
     Order(Deed, Sym, Kinds),
 }
 
-/// The advice about a cell that counts a conflict and shifts: it is about the first rule that
-/// doesn't lose.
-pub fn advice_on(asked: Question<'_>) -> Option<(Candidate, Advice)> {
-    let kept = |candidate: &Candidate| candidate.standing.class() != Class::Lose;
-    let candidate = asked.candidates().find(kept)?;
-    let advice = Rivals::new(asked).advice(candidate);
-    Some((candidate, advice.unwrap_or(Advice::General)))
-}
-
-/// How a cell with several candidates can be settled otherwise.
+/// How a cell with several candidates can be settled otherwise. The advice about one that counts a
+/// conflict and shifts is about the first rule that doesn't lose.
 pub fn hint_on(asked: Question<'_>) -> Option<Hint> {
     let rivals = Rivals::new(asked);
     match action_of(asked.tables, asked.state, asked.token) {
         Action::Reduce(_) if asked.shift().is_none() => Some(Hint::First),
         Action::Reduce(_) => {
             let beats = |candidate: &Candidate| candidate.standing.class() == Class::Beat;
-            Some(rivals.to_shift(asked.candidates().filter(beats).last()?))
+            Some(rivals.instead(asked.candidates().filter(beats).last()?, Deed::Shift))
         }
         Action::Error => Some(rivals.to_turn()),
         Action::Shift(_) | Action::Accept => {
             if conflict_of(asked.tables, asked.state, asked.token).is_none() {
-                return Some(rivals.to_reduce(asked.candidates().next()?));
+                return Some(rivals.instead(asked.candidates().next()?, Deed::Reduce));
             }
-            let (candidate, advice) = advice_on(asked)?;
+            let kept = |candidate: &Candidate| candidate.standing.class() != Class::Lose;
+            let candidate = asked.candidates().find(kept)?;
+            let advice = rivals.advice(candidate).unwrap_or(Advice::General);
             Some(Hint::Settle(candidate.rule, advice))
         }
     }
@@ -138,26 +127,24 @@ impl Rivals<'_> {
         }
     }
 
-    /// How to shift where a rule has won.
-    fn to_shift(&self, candidate: Candidate) -> Hint {
-        let at = self.place(candidate.rule).unwrap_or(BOTTOM);
-        let turns = self.is_done(self.with_word(Associativity::Right), self.shift);
-        let kinds = self.kinds_between((at, usize::MAX), self.shift);
-        self.instead(candidate, Deed::Shift, (turns, kinds))
-    }
-
-    /// How to reduce where the token has won against a rule.
-    fn to_reduce(&self, candidate: Candidate) -> Hint {
-        let at = self.place(candidate.rule).unwrap_or(TOP);
-        let turns = self.reduces(self.with_word(Associativity::Left));
-        let kinds = Kinds::by(|kind| self.reduces_above(at, kind));
-        self.instead(candidate, Deed::Reduce, (turns, kinds))
-    }
-
-    /// How to do otherwise: where rule and token have one level, by another word for its line, if
-    /// that turns the cell, and else by another order of lines of these words.
-    fn instead(&self, candidate: Candidate, deed: Deed, (turns, kinds): (bool, Kinds)) -> Hint {
-        let giver = self.lines().giver(self.grammar(), candidate.rule);
+    /// How to shift where a rule has won, or to reduce where the token has won: where both have one
+    /// level, by another word for its line, if that turns the cell, and else by another order of
+    /// lines of some words.
+    fn instead(&self, candidate: Candidate, deed: Deed) -> Hint {
+        let rule = candidate.rule;
+        let (turns, kinds) = match deed {
+            Deed::Shift => {
+                let at = self.place(rule).unwrap_or(BOTTOM);
+                let turns = self.is_done(self.with_word(Associativity::Right), self.shift);
+                (turns, self.kinds_between((at, usize::MAX), self.shift))
+            }
+            Deed::Reduce => {
+                let at = self.place(rule).unwrap_or(TOP);
+                let turns = self.reduces(self.with_word(Associativity::Left));
+                (turns, Kinds::by(|kind| self.reduces_above(at, kind)))
+            }
+        };
+        let giver = self.asked.lines.giver(self.asked.grammar(), rule);
         match (candidate.standing, giver) {
             (Standing::Level(_), _) if turns => Hint::Word(deed),
             (Standing::Level(_), _) => Hint::General,
@@ -169,17 +156,17 @@ impl Rivals<'_> {
     /// What settles the conflict with a rule, where less does than precedences of all rules.
     fn advice(&self, candidate: Candidate) -> Option<Advice> {
         let rule = candidate.rule;
-        if self.token() == END {
+        if self.asked.token == END {
             return Some(Advice::End);
         }
-        match self.lines().giver(self.grammar(), rule) {
-            Some(token) if token == self.token() => self.with_both(rule),
+        match self.asked.lines.giver(self.asked.grammar(), rule) {
+            Some(token) if token == self.asked.token => self.with_both(rule),
             Some(token) => match candidate.standing {
                 Standing::NoToken => self.with_token_line(rule, token),
                 Standing::NoRule => self.with_rule_line(rule, token),
                 _ => self.with_lines(rule, token),
             },
-            None if is_inner(self.grammar(), rule) => Some(Advice::Inner),
+            None if is_inner(self.asked.grammar(), rule) => Some(Advice::Inner),
             None => {
                 let chooses = self.chooses_by(rule, Associativity::Nonassoc);
                 chooses.then_some(Advice::Own)
@@ -203,16 +190,18 @@ impl Rivals<'_> {
             shifts: self.kinds_between((at, usize::MAX), self.shift),
             reduces: self.kinds_between((0, at), Action::Reduce(rule)),
         };
-        words.any().then_some(Advice::Token(words))
+        (words.shifts.any() || words.reduces.any()).then_some(Advice::Token(words))
     }
 
     /// A line for the token that would give the rule its precedence, where the token of the cell
     /// has one.
     fn with_rule_line(&self, rule: usize, giver: Sym) -> Option<Advice> {
-        let level = level_of(self.grammar(), self.token()).map_or(0, |it| it.level);
-        let (above, below) = around(place_of(level));
-        let shifts = self.is_done(self.with_giver(giver, above), self.shift);
-        let reduces = self.is_done(self.with_giver(giver, below), Action::Reduce(rule));
+        let level = level_of(self.asked.grammar(), self.asked.token).map_or(0, |it| it.level);
+        let at = place_of(level);
+        let above = self.with_giver(giver, at.saturating_sub(1));
+        let below = self.with_giver(giver, at.saturating_add(1));
+        let shifts = self.is_done(above, self.shift);
+        let reduces = self.is_done(below, Action::Reduce(rule));
         (shifts && reduces).then_some(Advice::Rule(giver))
     }
 
@@ -220,12 +209,12 @@ impl Rivals<'_> {
     fn with_lines(&self, rule: usize, giver: Sym) -> Option<Advice> {
         let words = Words {
             giver,
-            shifts: self.kinds_by((self.token(), giver), self.shift),
-            reduces: self.kinds_by((giver, self.token()), Action::Reduce(rule)),
+            shifts: self.kinds_by((self.asked.token, giver), self.shift),
+            reduces: self.kinds_by((giver, self.asked.token), Action::Reduce(rule)),
         };
         let kinds = words.both();
         let by_own = Kinds::by(|kind| self.chooses_by(rule, kind));
         let own = kinds.any() && kinds.and(by_own) == kinds;
-        words.any().then_some(Advice::Lines { words, own })
+        (words.shifts.any() || words.reduces.any()).then_some(Advice::Lines { words, own })
     }
 }

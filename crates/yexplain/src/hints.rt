@@ -4,6 +4,7 @@ use crate::advice::{Advice, Deed, Hint, Words};
 use crate::lines::is_inner;
 use crate::reads::level_of;
 use crate::rivals::{Kinds, Rivals};
+use crate::text::Name;
 use std::io::{self, Write};
 use ylalr::END;
 use ysymbols::{Grammar, Sym};
@@ -36,7 +37,7 @@ impl Rivals<'_> {
             Hint::General => self.put_general(out),
             Hint::Turn { reduces, shifts } => self.put_turn(out, (reduces, shifts)),
             Hint::Word(deed) => {
-                let name = self.name();
+                let name = self.asked.name();
                 let (deed, word) = match deed {
                     Deed::Shift => ("shift", "%right"),
                     Deed::Reduce => ("reduce", "%left"),
@@ -52,13 +53,13 @@ impl Rivals<'_> {
 
     /// Writes how precedences of all rules choose, which is always so.
     fn put_general<W: Write>(&self, out: &mut W) -> io::Result<()> {
-        let name = self.name();
-        let mut inner = self.rules().iter();
-        if self.token() == END || inner.any(|rule| is_inner(self.grammar(), *rule)) {
+        let name = self.asked.name();
+        let mut inner = self.contest.first_rules().iter();
+        if self.asked.token == END || inner.any(|rule| is_inner(self.asked.grammar(), *rule)) {
             return writeln!(out, "  To choose, change the grammar.");
         }
         write!(out, "  To choose, ")?;
-        if level_of(self.grammar(), self.token()).is_none() {
+        if level_of(self.asked.grammar(), self.asked.token).is_none() {
             write!(out, "name {name} on a line of %nonassoc, and ")?;
         }
         writeln!(
@@ -88,7 +89,7 @@ impl Rivals<'_> {
         token: Sym,
         kinds: Kinds,
     ) -> io::Result<()> {
-        let (name, token) = (self.name(), self.named(token));
+        let (name, token) = (self.asked.name(), Name(self.asked.grammar(), token));
         let (deed, order) = match deed {
             Deed::Shift => ("shift", "a later"),
             Deed::Reduce => ("reduce", "an earlier"),
@@ -119,7 +120,7 @@ impl Rivals<'_> {
             Advice::Both { reduces, shifts } => self.put_both(out, rule, (reduces, shifts)),
             Advice::Token(words) => self.put_token_line(out, rule, words),
             Advice::Rule(giver) => {
-                let (name, giver) = (self.name(), self.named(giver));
+                let (name, giver) = (self.asked.name(), Name(self.asked.grammar(), giver));
                 writeln!(
                     out,
                     "  To choose, name {giver} on a line of %left, %right or %nonassoc: earlier \
@@ -133,7 +134,7 @@ impl Rivals<'_> {
 
     /// Writes how a line for the token that gives the rule its precedence too chooses.
     fn put_both<W: Write>(&self, out: &mut W, rule: usize, turns: (bool, bool)) -> io::Result<()> {
-        let name = self.name();
+        let name = self.asked.name();
         match turns {
             (true, true) => writeln!(
                 out,
@@ -150,7 +151,7 @@ impl Rivals<'_> {
     /// Writes how a line for the token chooses, where the rule has one of another token.
     fn put_token_line<W: Write>(&self, out: &mut W, rule: usize, words: Words) -> io::Result<()> {
         let (shifts, reduces, both) = (words.shifts, words.reduces, words.both());
-        let (name, other) = (self.name(), self.named(words.giver));
+        let (name, other) = (self.asked.name(), Name(self.asked.grammar(), words.giver));
         if both.any() {
             return writeln!(
                 out,
@@ -172,12 +173,12 @@ impl Rivals<'_> {
 
     /// Writes how a name of its own gives a rule a precedence.
     fn put_own<W: Write>(&self, out: &mut W, rule: usize) -> io::Result<()> {
-        let name = self.name();
-        let line = match level_of(self.grammar(), self.token()) {
+        let name = self.asked.name();
+        let line = match level_of(self.asked.grammar(), self.asked.token) {
             Some(_) => "the line of",
             None => "%nonassoc",
         };
-        let low = fresh_name(self.grammar());
+        let low = fresh_name(self.asked.grammar());
         writeln!(
             out,
             "  To choose, write %nonassoc {low} above {line} {name}, and %prec {low} at the end of \
@@ -193,7 +194,7 @@ impl Rivals<'_> {
         (words, own): (Words, bool),
     ) -> io::Result<()> {
         let (shifts, reduces, both) = (words.shifts, words.reduces, words.both());
-        let (name, token) = (self.name(), self.named(words.giver));
+        let (name, token) = (self.asked.name(), Name(self.asked.grammar(), words.giver));
         if both.any() {
             writeln!(
                 out,
@@ -201,7 +202,7 @@ impl Rivals<'_> {
                  one shifts, {token} on it reduces."
             )?;
             if own {
-                let low = fresh_name(self.grammar());
+                let low = fresh_name(self.asked.grammar());
                 writeln!(
                     out,
                     "  Or give rule {rule} a precedence of its own: %prec {low} at its end, and {low} \

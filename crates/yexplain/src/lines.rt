@@ -9,7 +9,7 @@ use ysymbols::{Grammar, Sym, let_go};
 use ysyntax::{Mark, Role};
 
 /// A symbol that a file names.
-#[derive(Clone, Copy, Drop, PartialEq, Eq)]
+#[derive(Clone, Copy, Drop)]
 pub struct Mention {
     /// The symbol.
     pub symbol: Sym,
@@ -20,7 +20,7 @@ pub struct Mention {
 }
 
 /// A lexeme of the text of a grammar: where it stands, and what it is there for.
-#[derive(Clone, Copy, Drop, PartialEq, Eq)]
+#[derive(Clone, Copy, Drop)]
 pub struct Site {
     /// How many bytes stand before it.
     pub at: usize,
@@ -67,9 +67,12 @@ struct Acted {
 pub struct Lines {
     /// By number; none for rule 0.
     rules: Vec<Option<Begun>>,
-    mentions: Vec<Mention>,
-    sites: Vec<Site>,
-    mark: Option<Spot>,
+    /// All places at which the file names a symbol, in its order.
+    pub mentions: Vec<Mention>,
+    /// The lexemes of the text that was read: of a file of bison, those of what it becomes.
+    pub sites: Vec<Site>,
+    /// Where the first mark stands.
+    pub mark: Option<Spot>,
 }
 
 impl Drop for Lines {
@@ -99,20 +102,6 @@ struct Places {
     mentions: Vec<Mention>,
 }
 
-/// Whether lexemes of this role name symbols.
-fn names_symbol(role: Role) -> bool {
-    matches!(
-        role,
-        Role::Start
-            | Role::Declared
-            | Role::Levelled
-            | Role::Typed
-            | Role::Left(_)
-            | Role::Symbol(_)
-            | Role::PrecName(_)
-    )
-}
-
 /// The name that a lexeme is, where it is one.
 pub fn name_in(lexeme: Lexeme<'_>) -> Option<&[u8]> {
     match lexeme {
@@ -134,7 +123,17 @@ impl Places {
     /// Takes a lexeme at a place in.
     fn take(&mut self, grammar: &Grammar, mark: Mark<'_>, spot: Spot) -> Made<()> {
         let Mark { placed, role } = mark;
-        if let (true, Some(symbol)) = (names_symbol(role), symbol_of(grammar, placed.lexeme)) {
+        let names_symbol = matches!(
+            role,
+            Role::Start
+                | Role::Declared
+                | Role::Levelled
+                | Role::Typed
+                | Role::Left(_)
+                | Role::Symbol(_)
+                | Role::PrecName(_)
+        );
+        if let (true, Some(symbol)) = (names_symbol, symbol_of(grammar, placed.lexeme)) {
             if let (Role::PrecName(_), Some(rule)) = (role, self.rules.last_mut()) {
                 rule.prec = Some(symbol);
             }
@@ -177,10 +176,12 @@ pub fn is_inner(grammar: &Grammar, rule: usize) -> bool {
 
 /// The last token of a body.
 pub fn last_token(grammar: &Grammar, body: &[Sym]) -> Option<Sym> {
-    body.iter()
-        .rev()
-        .copied()
-        .find(|symbol| grammar.is_token(*symbol))
+    for symbol in body.iter().rev() {
+        if grammar.is_token(*symbol) {
+            return Some(*symbol);
+        }
+    }
+    None
 }
 
 impl Lines {
@@ -215,11 +216,6 @@ impl Lines {
         })
     }
 
-    /// The lexemes of the text that was read: of a file of bison, those of what it becomes.
-    pub fn sites(&self) -> &[Site] {
-        &self.sites
-    }
-
     /// Where a rule begins: at its name or its bar, or at its action where it is the rule of an
     /// inner one. `None` for rule 0 and for a number of no rule.
     pub fn spot(&self, number: usize) -> Option<Spot> {
@@ -241,15 +237,5 @@ impl Lines {
     pub fn giver(&self, grammar: &Grammar, number: usize) -> Option<Sym> {
         self.prec(number)
             .or(last_token(grammar, body_of(grammar, number)))
-    }
-
-    /// Where the first mark stands.
-    pub fn mark(&self) -> Option<Spot> {
-        self.mark
-    }
-
-    /// All places at which the file names a symbol, in its order.
-    pub fn mentions(&self) -> &[Mention] {
-        self.mentions.as_slice()
     }
 }

@@ -10,7 +10,7 @@ use ysymbols::{Associativity, Grammar, Sym};
 use ytables::Action;
 
 /// One or two lines of precedence, to be written in front of the first mark.
-#[derive(Clone, Copy, Drop, PartialEq, Eq)]
+#[derive(Clone, Copy, Drop)]
 pub struct Mend {
     /// What comes of it.
     pub deed: Deed,
@@ -26,7 +26,7 @@ pub struct Mend {
 
 /// Whether a token can be named on one more line: the file names it, and on no line so far.
 fn is_free(grammar: &Grammar, lines: &Lines, token: Sym) -> bool {
-    let mut mentions = lines.mentions().iter();
+    let mut mentions = lines.mentions.iter();
     level_of(grammar, token).is_none() && mentions.any(|it| it.symbol == token)
 }
 
@@ -52,7 +52,7 @@ pub fn mend_of(asked: Question<'_>, hint: Hint, deed: Deed) -> Option<Mend> {
     let (grammar, lines) = (asked.grammar(), asked.lines);
     let are_free = is_free(grammar, lines, first)
         && second.is_none_or(|token| is_free(grammar, lines, token));
-    let at = lines.mark().filter(|_| are_free)?;
+    let at = lines.mark.filter(|_| are_free)?;
     let rivals = Rivals::new(asked);
     let action = match deed {
         Deed::Shift => rivals.shift,

@@ -1,13 +1,11 @@
 //! A cell with a shift and its rules, and what would be done in it with other precedences, wherever
 //! their lines may be put.
 
-use crate::lines::Lines;
 use crate::question::Question;
 use crate::reads::{level_of, rule_of};
 use crate::supposed::{BOTTOM, Contest, Supposed, TOP, line, place_of};
-use crate::text::Name;
 use std::fmt;
-use ysymbols::{Associativity, Grammar, Precedence, Sym};
+use ysymbols::{Associativity, Precedence, Sym};
 use ytables::Action;
 
 /// The words for lines of precedence with which a hint holds.
@@ -65,10 +63,12 @@ impl fmt::Display for Kinds {
 /// A cell with a shift, and its rules.
 #[derive(Clone, Copy)]
 pub struct Rivals<'a> {
-    asked: Question<'a>,
+    /// The cell that is asked for.
+    pub asked: Question<'a>,
     /// The shift.
     pub shift: Action,
-    contest: Contest,
+    /// The cell as precedences are tried on it.
+    pub contest: Contest,
 }
 
 impl<'a> Rivals<'a> {
@@ -84,41 +84,11 @@ impl<'a> Rivals<'a> {
         }
     }
 
-    /// The grammar.
-    pub fn grammar(&self) -> &'a Grammar {
-        self.asked.grammar()
-    }
-
-    /// Where rules stand in the file.
-    pub fn lines(&self) -> &'a Lines {
-        self.asked.lines
-    }
-
-    /// The token of the cell.
-    pub fn token(&self) -> Sym {
-        self.asked.token
-    }
-
-    /// The name of that token.
-    pub fn name(&self) -> Name<'a> {
-        self.asked.name()
-    }
-
-    /// The name of a token.
-    pub fn named(&self, token: Sym) -> Name<'a> {
-        Name(self.grammar(), token)
-    }
-
-    /// The rules of the cell; of too many the first ones.
-    pub fn rules(&self) -> &[usize] {
-        self.contest.first_rules()
-    }
-
     /// The precedences as they are.
     pub fn supposed(&self) -> Supposed<'a> {
         Supposed {
-            grammar: self.grammar(),
-            lines: self.lines(),
+            grammar: self.asked.grammar(),
+            lines: self.asked.lines,
             token: None,
             other: None,
             rule: None,
@@ -127,24 +97,25 @@ impl<'a> Rivals<'a> {
         }
     }
 
-    /// What is done in the cell; `None` where it has too many rules to be tried.
-    fn deed(&self, supposed: Supposed<'a>) -> Option<Action> {
-        Some(self.contest.settled(supposed)?.action)
-    }
-
     /// Whether this is done in the cell; never, where it has too many rules to be tried.
     pub fn is_done(&self, supposed: Supposed<'a>, action: Action) -> bool {
-        self.deed(supposed) == Some(action)
+        match self.contest.settled(supposed) {
+            Some(cell) => cell.action == action,
+            None => false,
+        }
     }
 
     /// Whether some rule is reduced in the cell.
     pub fn reduces(&self, supposed: Supposed<'a>) -> bool {
-        matches!(self.deed(supposed), Some(Action::Reduce(_)))
+        match self.contest.settled(supposed) {
+            Some(cell) => matches!(cell.action, Action::Reduce(_)),
+            None => false,
+        }
     }
 
     /// The place of the line of a rule, where it has one.
     pub fn place(&self, rule: usize) -> Option<usize> {
-        let precedence = rule_of(self.grammar(), rule)?.precedence()?;
+        let precedence = rule_of(self.asked.grammar(), rule)?.precedence()?;
         Some(place_of(precedence.level))
     }
 
@@ -155,7 +126,7 @@ impl<'a> Rivals<'a> {
         if let Some(entry) = entries.next() {
             *entry = TOP;
         }
-        for rule in self.rules() {
+        for rule in self.contest.first_rules() {
             let Some(at) = self.place(*rule) else {
                 continue;
             };
@@ -171,7 +142,7 @@ impl<'a> Rivals<'a> {
     /// The precedences where the token stands on a line at a place.
     pub fn with_token(&self, place: usize, kind: Associativity) -> Supposed<'a> {
         Supposed {
-            token: Some((self.token(), line(place, kind))),
+            token: Some((self.asked.token, line(place, kind))),
             ..self.supposed()
         }
     }
@@ -183,10 +154,13 @@ impl<'a> Rivals<'a> {
         kind: Associativity,
         action: Action,
     ) -> bool {
-        self.places()
-            .iter()
-            .filter(|place| from < **place && **place < to)
-            .all(|place| self.is_done(self.with_token(*place, kind), action))
+        for place in self.places() {
+            let is_between = from < place && place < to;
+            if is_between && !self.is_done(self.with_token(place, kind), action) {
+                return false;
+            }
+        }
+        true
     }
 
     /// The words with which this is done wherever the line of the token is put between two places.
@@ -197,14 +171,17 @@ impl<'a> Rivals<'a> {
     /// Whether this is done where two tokens stand on lines of this word, the first one below the
     /// other, above all other lines and below all.
     fn is_done_by(&self, pair: (Sym, Sym), kind: Associativity, action: Action) -> bool {
-        [TOP, BOTTOM].iter().all(|place| {
+        for place in [TOP, BOTTOM] {
             let supposed = Supposed {
                 token: Some((pair.0, line(place.saturating_add(1), kind))),
-                other: Some((pair.1, line(*place, kind))),
+                other: Some((pair.1, line(place, kind))),
                 ..self.supposed()
             };
-            self.is_done(supposed, action)
-        })
+            if !self.is_done(supposed, action) {
+                return false;
+            }
+        }
+        true
     }
 
     /// The words of lines for two tokens, the first one below the other, with which this is done.
@@ -214,16 +191,18 @@ impl<'a> Rivals<'a> {
 
     /// The precedences where the line of the token has another word.
     pub fn with_word(&self, kind: Associativity) -> Supposed<'a> {
-        let level = level_of(self.grammar(), self.token()).map_or(0, |it| it.level);
+        let level = level_of(self.asked.grammar(), self.asked.token).map_or(0, |it| it.level);
         self.with_token(place_of(level), kind)
     }
 
     /// Whether some rule is reduced, wherever the line of the token is put above a place.
     pub fn reduces_above(&self, to: usize, kind: Associativity) -> bool {
-        self.places()
-            .iter()
-            .filter(|place| **place < to)
-            .all(|place| self.reduces(self.with_token(*place, kind)))
+        for place in self.places() {
+            if place < to && !self.reduces(self.with_token(place, kind)) {
+                return false;
+            }
+        }
+        true
     }
 
     /// The precedences where a token that gives rules theirs stands on a line at a place.
@@ -237,7 +216,7 @@ impl<'a> Rivals<'a> {
     /// The precedences where a rule has a line of its own at a place, and the token one, too.
     pub fn with_own(&self, rule: usize, place: usize, token: Precedence) -> Supposed<'a> {
         Supposed {
-            token: Some((self.token(), token)),
+            token: Some((self.asked.token, token)),
             rule: Some((rule, line(place, Associativity::Nonassoc))),
             ..self.supposed()
         }
@@ -245,24 +224,19 @@ impl<'a> Rivals<'a> {
 
     /// Whether a name of its own for a rule chooses, where the token stands on this line.
     fn chooses(&self, rule: usize, token: Precedence) -> bool {
-        let (above, below) = around(token.level);
+        let (above, below) = (token.level.saturating_sub(1), token.level.saturating_add(1));
         self.is_done(self.with_own(rule, above, token), self.shift)
             && self.is_done(self.with_own(rule, below, token), Action::Reduce(rule))
     }
 
     /// Whether a name of its own for a rule chooses, where the token has a line of this word.
     pub fn chooses_by(&self, rule: usize, kind: Associativity) -> bool {
-        match level_of(self.grammar(), self.token()) {
+        match level_of(self.asked.grammar(), self.asked.token) {
             Some(level) => self.chooses(rule, line(place_of(level.level), level.kind)),
-            None => [TOP, BOTTOM].iter().all(|place| self.chooses(
-                rule,
-                line(place.saturating_add(1), kind),
-            )),
+            None => {
+                self.chooses(rule, line(TOP.saturating_add(1), kind))
+                    && self.chooses(rule, line(BOTTOM.saturating_add(1), kind))
+            }
         }
     }
-}
-
-/// The places above and below a line.
-pub fn around(place: usize) -> (usize, usize) {
-    (place.saturating_sub(1), place.saturating_add(1))
 }

@@ -55,37 +55,31 @@ pub fn sources_of(alloc: Global, reasons: &Reasons<'_>, asked: Question<'_>) -> 
     Ok(sources)
 }
 
-impl<'a> Question<'a> {
-    /// Writes where the token comes from that can come after a rule.
-    fn put_chain<W: Write>(self, out: &mut W, source: &Source) -> io::Result<()> {
-        let name = self.name();
-        let rule = source.rule;
-        writeln!(out, "  {name} can come after rule {rule} from:")?;
-        let mut shown: usize = 0;
-        for index in 0..source.chain.len() {
-            if let Some(place) = source.opener(index) {
-                if shown < MOST_ITEMS {
-                    let state = place.state;
-                    let number = Numbered(self.lines, place.item.rule);
-                    let text = ItemText(self.grammar(), place.item);
-                    writeln!(out, "    state {state}  {number}  {text}")?;
-                }
-                shown = shown.saturating_add(1);
-            }
-        }
-        let more = shown.saturating_sub(MOST_ITEMS);
-        if more > 0 {
-            writeln!(out, "    and {more} items more")?;
-        }
-        Ok(())
-    }
-
-    /// Writes, for each of these rules, the items that put the token after it: the first has the
-    /// token after the symbol next to its dot, and each other ends with that symbol or with symbols
-    /// that are nullable.
+impl Question<'_> {
+    /// Writes, for each of these rules, where the token comes from that can come after it, by the
+    /// items that put it there: the first has the token after the symbol next to its dot, and each
+    /// other ends with that symbol or with symbols that are nullable.
     pub fn put_sources<W: Write>(self, out: &mut W, sources: &[Source]) -> io::Result<()> {
+        let name = self.name();
         for source in sources {
-            self.put_chain(out, source)?;
+            let rule = source.rule;
+            writeln!(out, "  {name} can come after rule {rule} from:")?;
+            let mut shown: usize = 0;
+            for index in 0..source.chain.len() {
+                if let Some(place) = source.opener(index) {
+                    if shown < MOST_ITEMS {
+                        let state = place.state;
+                        let number = Numbered(self.lines, place.item.rule);
+                        let text = ItemText(self.grammar(), place.item);
+                        writeln!(out, "    state {state}  {number}  {text}")?;
+                    }
+                    shown = shown.saturating_add(1);
+                }
+            }
+            let more = shown.saturating_sub(MOST_ITEMS);
+            if more > 0 {
+                writeln!(out, "    and {more} items more")?;
+            }
         }
         Ok(())
     }

@@ -50,7 +50,10 @@ pub struct Supposed<'a> {
 
 /// The precedence that is supposed of a token or a rule, where one is.
 fn among(supposed: Option<(usize, Precedence)>, number: usize) -> Option<Precedence> {
-    supposed.and_then(|(it, precedence)| (it == number).then_some(precedence))
+    match supposed {
+        Some((it, precedence)) if it == number => Some(precedence),
+        _ => None,
+    }
 }
 
 /// The precedence by the line after all others, where a number is marked.

@@ -2,17 +2,9 @@
 
 use crate::lines::Lines;
 use crate::reads::{body_of, left_of, name_of};
-use std::fmt;
+use std::fmt::{self, Display};
 use ylalr::Item;
 use ysymbols::{Grammar, Sym};
-
-/// Writes bytes, each as the character of its value.
-fn put_bytes<W: fmt::Write>(f: &mut fmt::Formatter<W>, bytes: &[u8]) -> fmt::Result {
-    for byte in bytes {
-        f.write_char(char::from(*byte))?;
-    }
-    Ok(())
-}
 
 /// Some bytes, each as the character of its value.
 #[derive(Clone, Copy)]
@@ -20,7 +12,10 @@ pub struct Bytes<'a>(pub &'a [u8]);
 
 impl fmt::Display for Bytes<'_> {
     fn fmt<W: fmt::Write>(&self, f: &mut fmt::Formatter<W>) -> fmt::Result {
-        put_bytes(f, self.0)
+        for byte in self.0 {
+            f.write_char(char::from(*byte))?;
+        }
+        Ok(())
     }
 }
 
@@ -47,7 +42,7 @@ pub struct Name<'a>(pub &'a Grammar, pub Sym);
 
 impl fmt::Display for Name<'_> {
     fn fmt<W: fmt::Write>(&self, f: &mut fmt::Formatter<W>) -> fmt::Result {
-        put_bytes(f, name_of(self.0, self.1))
+        Bytes(name_of(self.0, self.1)).fmt(f)
     }
 }
 
@@ -59,7 +54,7 @@ impl fmt::Display for Names<'_> {
     fn fmt<W: fmt::Write>(&self, f: &mut fmt::Formatter<W>) -> fmt::Result {
         for symbol in self.1 {
             f.write_char(' ')?;
-            put_bytes(f, name_of(self.0, *symbol))?;
+            Bytes(name_of(self.0, *symbol)).fmt(f)?;
         }
         Ok(())
     }
@@ -88,7 +83,7 @@ fn put_left<W: fmt::Write>(
     rule: usize,
 ) -> fmt::Result {
     if let Some(left) = left_of(grammar, rule) {
-        put_bytes(f, name_of(grammar, left))?;
+        Name(grammar, left).fmt(f)?;
     }
     f.write_char(':')
 }

@@ -182,22 +182,17 @@ impl<'a> Question<'a> {
             Standing::NoToken => writeln!(out, "  Rule {rule} has a precedence, {name} has none."),
             Standing::NoRule => {
                 writeln!(out, "  {name} has a precedence, rule {rule} has none.")?;
-                self.put_source(out, rule)
+                match self.lines.giver(self.grammar(), rule) {
+                    Some(token) => {
+                        let token = Name(self.grammar(), token);
+                        writeln!(out, "  Rule {rule} would take that of {token}.")
+                    }
+                    None => writeln!(out, "  Rule {rule} has no token to take one from."),
+                }
             }
             Standing::Neither => {
                 writeln!(out, "  Neither rule {rule} nor {name} has a precedence.")
             }
-        }
-    }
-
-    /// Writes from what a rule could have a precedence.
-    fn put_source<W: Write>(self, out: &mut W, rule: usize) -> io::Result<()> {
-        match self.lines.giver(self.grammar(), rule) {
-            Some(token) => {
-                let token = Name(self.grammar(), token);
-                writeln!(out, "  Rule {rule} would take that of {token}.")
-            }
-            None => writeln!(out, "  Rule {rule} has no token to take one from."),
         }
     }
 

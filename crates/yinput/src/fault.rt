@@ -55,7 +55,7 @@ fn ungiven(
     opened: &Opened,
     token: Sym,
 ) -> io::Result<Diagnostic> {
-    let mut mentions = opened.lines.mentions().iter();
+    let mut mentions = opened.lines.mentions.iter();
     let mention = mentions.find(|it| it.symbol == token);
     let first = match mention {
         Some(it) => it.spot,

@@ -196,7 +196,7 @@ pub fn warnings_of(
     let grammar = grammar_of(tables);
     let mut done = Done::new(alloc, tables, lines)?;
     done.spread(grammar, lines);
-    let named = Named::new(alloc, grammar, lines.mentions())?;
+    let named = Named::new(alloc, grammar, lines.mentions.as_slice())?;
     let mut warner = Warner {
         alloc,
         path,

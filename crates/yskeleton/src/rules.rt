@@ -34,7 +34,7 @@ pub struct Asked<'a> {
 
 /// The names of the rules of a text that is open.
 fn named(alloc: Global, bytes: &[u8], opened: &Opened) -> Result<Names, Trouble> {
-    let (grammar, sites) = (grammar_of(&opened.tables), opened.lines.sites());
+    let (grammar, sites) = (grammar_of(&opened.tables), opened.lines.sites.as_slice());
     let comments = comments_of(alloc, bytes, sites)?;
     let given = given_in(alloc, &comments)?;
     let stems = stems_of(alloc, grammar, sites, &given)?;

@@ -56,7 +56,7 @@ fn put_first<W: Write>(page: &mut Page<W>, tables: &Tables, symbol: Sym) {
 /// Where a symbol is named outside of the rules, or by `%prec`: the first 40 places.
 fn put_mentions<W: Write>(page: &mut Page<W>, lines: &Lines, symbol: Sym) {
     let mut left = SOME_RULES;
-    for mention in lines.mentions() {
+    for mention in &lines.mentions {
         if left == 0 || mention.symbol != symbol {
             continue;
         }
