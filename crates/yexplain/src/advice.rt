@@ -22,13 +22,6 @@ pub struct Words {
     pub reduces: Kinds,
 }
 
-impl Words {
-    /// Those with which the order of the lines chooses.
-    pub fn both(self) -> Kinds {
-        self.shifts.and(self.reduces)
-    }
-}
-
 /// What settles a conflict between a shift and a rule.
 #[derive(Clone, Copy, Drop, PartialEq, Eq)]
 pub enum Advice {
@@ -160,7 +153,12 @@ impl Rivals<'_> {
             return Some(Advice::End);
         }
         match self.asked.lines.giver(self.asked.grammar(), rule) {
-            Some(token) if token == self.asked.token => self.with_both(rule),
+            Some(token) if token == self.asked.token => {
+                let (all, by_rule) = ((0, usize::MAX), Action::Reduce(rule));
+                let reduces = self.is_done_between(all, Associativity::Left, by_rule);
+                let shifts = self.is_done_between(all, Associativity::Right, self.shift);
+                (reduces || shifts).then_some(Advice::Both { reduces, shifts })
+            }
             Some(token) => match candidate.standing {
                 Standing::NoToken => self.with_token_line(rule, token),
                 Standing::NoRule => self.with_rule_line(rule, token),
@@ -172,14 +170,6 @@ impl Rivals<'_> {
                 chooses.then_some(Advice::Own)
             }
         }
-    }
-
-    /// A line for the token that gives the rule its precedence too.
-    fn with_both(&self, rule: usize) -> Option<Advice> {
-        let all = (0, usize::MAX);
-        let reduces = self.is_done_between(all, Associativity::Left, Action::Reduce(rule));
-        let shifts = self.is_done_between(all, Associativity::Right, self.shift);
-        (reduces || shifts).then_some(Advice::Both { reduces, shifts })
     }
 
     /// A line for the token, where the rule has that of another token.
@@ -212,7 +202,7 @@ impl Rivals<'_> {
             shifts: self.kinds_by((self.asked.token, giver), self.shift),
             reduces: self.kinds_by((giver, self.asked.token), Action::Reduce(rule)),
         };
-        let kinds = words.both();
+        let kinds = words.shifts.and(words.reduces);
         let by_own = Kinds::by(|kind| self.chooses_by(rule, kind));
         let own = kinds.any() && kinds.and(by_own) == kinds;
         (words.shifts.any() || words.reduces.any()).then_some(Advice::Lines { words, own })

@@ -150,7 +150,8 @@ impl Rivals<'_> {
 
     /// Writes how a line for the token chooses, where the rule has one of another token.
     fn put_token_line<W: Write>(&self, out: &mut W, rule: usize, words: Words) -> io::Result<()> {
-        let (shifts, reduces, both) = (words.shifts, words.reduces, words.both());
+        let (shifts, reduces) = (words.shifts, words.reduces);
+        let both = shifts.and(reduces);
         let (name, other) = (self.asked.name(), Name(self.asked.grammar(), words.giver));
         if both.any() {
             return writeln!(
@@ -193,7 +194,8 @@ impl Rivals<'_> {
         rule: usize,
         (words, own): (Words, bool),
     ) -> io::Result<()> {
-        let (shifts, reduces, both) = (words.shifts, words.reduces, words.both());
+        let (shifts, reduces) = (words.shifts, words.reduces);
+        let both = shifts.and(reduces);
         let (name, token) = (self.asked.name(), Name(self.asked.grammar(), words.giver));
         if both.any() {
             writeln!(

@@ -4,7 +4,7 @@ ghost use Rattle.std.specs.Iterator.{at_most};
 
 use std::alloc::{AllocError, Global};
 use ylalr::{Automaton, Item};
-use yprovenance::{Candidate, Place, Reason, Reasons, candidate_at, leading, next_rule, shift_at};
+use yprovenance::{Candidate, candidate_at, leading, next_rule, shift_at};
 use ysymbols::{Grammar, Precedence, Rule, Sym};
 use ytables::{Action, Conflict, Tables, is_ready, next_symbol};
 
@@ -127,21 +127,6 @@ pub fn looks_at(automaton: &Automaton, state: usize, item: Item, token: Sym) -> 
     state < automaton.states()
         && token < automaton.grammar().symbols()
         && automaton.looks(state, item, token)
-}
-
-/// Why a token is a merged lookahead of an item of a state, where it is one.
-pub fn chain_at(
-    alloc: Global,
-    reasons: &Reasons<'_>,
-    place: Place,
-    token: Sym,
-) -> Made<Option<Vec<Reason>>> {
-    let automaton = reasons.automaton();
-    if place.state < automaton.states() && token < automaton.grammar().symbols() {
-        reasons.chain(alloc, place.state, place.item, token)
-    } else {
-        Ok(None)
-    }
 }
 
 /// The items of a state that lead to a symbol by the closure; none for a number of no state.

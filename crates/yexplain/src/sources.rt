@@ -1,7 +1,7 @@
 //! Where lookaheads come from: for each rule of a cell the chain of items that gives it the token.
 
 use crate::question::Question;
-use crate::reads::{Made, body_of, chain_at};
+use crate::reads::{Made, body_of};
 use crate::text::{ItemText, Numbered};
 use std::alloc::Global;
 use std::io::{self, Write};
@@ -41,15 +41,14 @@ impl Source {
 /// lookaheads.
 pub fn sources_of(alloc: Global, reasons: &Reasons<'_>, asked: Question<'_>) -> Made<Vec<Source>> {
     let mut sources = Vec::new(alloc);
+    let (automaton, state, token) = (reasons.automaton(), asked.state, asked.token);
     for candidate in asked.candidates().take(MOST_RULES) {
         let rule = candidate.rule;
         let dot = body_of(asked.grammar(), rule).len();
-        let place = Place {
-            state: asked.state,
-            item: Item { rule, dot },
-        };
-        if let Some(chain) = chain_at(alloc, reasons, place, asked.token)? {
-            sources.push(Source { rule, chain })?;
+        if state < automaton.states() && token < automaton.grammar().symbols() {
+            if let Some(chain) = reasons.chain(alloc, state, Item { rule, dot }, token)? {
+                sources.push(Source { rule, chain })?;
+            }
         }
     }
     Ok(sources)

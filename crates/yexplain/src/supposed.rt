@@ -70,21 +70,20 @@ impl Supposed<'_> {
             .or(marked(self.tokens, token))
     }
 
-    /// The precedence that a rule has from a token.
-    fn given(self, rule: usize) -> Option<Precedence> {
-        let giver = self.lines.giver(self.grammar, rule);
-        giver
-            .and_then(|token| self.supposed(token))
-            .or(placed(rule_of(self.grammar, rule)?.precedence()))
-    }
-
     /// A rule in a cell of a token.
     pub fn rival(self, rule: usize, token: Sym) -> Rival {
         let level = placed(level_of(self.grammar, token));
         let of_token = self.supposed(token).or(level);
         let own = among(self.rule, rule).or(marked(self.rules, rule));
-        let of_rule = own.or(self.given(rule));
-        let standing = standing_between(of_token, of_rule);
+        let given = match self.lines.giver(self.grammar, rule) {
+            Some(giver) => self.supposed(giver),
+            None => None,
+        };
+        let level = match rule_of(self.grammar, rule) {
+            Some(it) => placed(it.precedence()),
+            None => None,
+        };
+        let standing = standing_between(of_token, own.or(given).or(level));
         Rival { rule, standing }
     }
 }

@@ -65,5 +65,5 @@ pub fn near_directive(alloc: Global, text: &[u8]) -> Made<Option<&[u8]>> {
             search.offer(alloc, words.as_bytes())?;
         }
     }
-    Ok(search.found())
+    Ok(search.found)
 }

@@ -1,19 +1,18 @@
 //! What is said of the faults of grammar files, with what helps beside the words of their codes.
 
 use crate::coming::{Coming, near_directive};
-use crate::long::long_rule;
 use crate::nearest::Search;
 use crate::words::{AT_END, grammar_code, words_of};
 use std::alloc::Global;
 use std::io::{self, Write};
 use yexplain::lines::name_in;
-use yexplain::reads::{Made, name_of};
+use yexplain::reads::Made;
 use yexplain::text::Bytes;
 use yfiles::diagnostic::{Diagnostic, Diagnostics};
 use yfiles::place::Place;
 use yforeign::directive::is_imported;
-use ygrammar::{Grammar, GrammarFault, Mapped, PlacedFault, read_mapped};
-use ylalr::token_count;
+use ygrammar::{GrammarFault, Mapped, PlacedFault, read_mapped};
+use ysymbols::limits::LONGEST_BODY;
 use ysymbols::names::{SymbolTable, intern};
 use ysyntax::{Mark, Role};
 
@@ -42,20 +41,7 @@ fn nearest_symbol<'a>(alloc: Global, map: &[Mark<'a>], at: usize) -> Made<Option
             search.offer(alloc, name)?;
         }
     }
-    Ok(search.found())
-}
-
-/// The nearest to a word of the tokens that an input can have.
-pub fn nearest_token<'a>(
-    alloc: Global,
-    grammar: &'a Grammar,
-    word: &'a [u8],
-) -> Made<Option<&'a [u8]>> {
-    let mut search = Search::new(word);
-    for token in 2..token_count(grammar) {
-        search.offer(alloc, name_of(grammar, token))?;
-    }
-    Ok(search.found())
+    Ok(search.found)
 }
 
 /// Asks whether a name was meant.
@@ -113,6 +99,34 @@ fn say_others(alloc: Global, one: &mut Diagnostic, names: &SymbolTable) -> io::R
         note.write_all(b" ..")?;
     }
     Ok(one.help(note)?)
+}
+
+/// Where the first rule with a body above the limit begins. An action is a symbol of a body only
+/// where more follows it.
+fn long_rule(map: &[Mark<'_>]) -> Option<usize> {
+    let (mut at, mut symbols, mut acted) = (0_usize, 0_usize, false);
+    for mark in map {
+        match mark.role {
+            Role::Left(_) | Role::Bar(_) => {
+                at = mark.placed.at;
+                symbols = 0;
+                acted = false;
+            }
+            Role::Action(_) => {
+                symbols = symbols.saturating_add(usize::from(acted));
+                acted = true;
+            }
+            Role::Symbol(_) => {
+                symbols = symbols.saturating_add(1).saturating_add(usize::from(acted));
+                acted = false;
+            }
+            _ => {}
+        }
+        if symbols > LONGEST_BODY {
+            return Some(at);
+        }
+    }
+    None
 }
 
 /// A fault of a grammar file, with the file's source map; that has no marks where the file has no

@@ -3,7 +3,6 @@
 
 mod coming;
 mod grammar_fault;
-mod long;
 pub mod nearest;
 pub mod opening;
 mod words;

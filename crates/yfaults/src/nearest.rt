@@ -13,7 +13,8 @@ const LONGEST: usize = 64;
 #[derive(Clone, Copy, Drop)]
 pub struct Search<'a> {
     wanted: &'a [u8],
-    found: Option<&'a [u8]>,
+    /// The nearest of the names that were offered.
+    pub found: Option<&'a [u8]>,
     /// Fewer edits than these must lead to a name.
     edits: usize,
 }
@@ -59,12 +60,7 @@ impl<'a> Search<'a> {
         Ok(())
     }
 
-    /// The nearest of the names that were offered.
-    pub fn found(&self) -> Option<&'a [u8]> {
-        self.found
-    }
-
-    /// The same as text.
+    /// The nearest of the names that were offered, as text.
     pub fn text(&self) -> Option<&'a str> {
         str::from_utf8(self.found?).ok()
     }

@@ -1,17 +1,19 @@
 //! What is opened of a grammar file, and what is wrong with grammar files and tokens files that are
 //! refused.
 
-use crate::grammar_fault::{Refusal, add_grammar_fault, ask, nearest_token};
+use crate::grammar_fault::{Refusal, add_grammar_fault, ask};
+use crate::nearest::Search;
 use crate::words::{token_code, words_of};
 use std::alloc::Global;
-use std::io::{self, ErrorKind};
+use std::fs;
+use std::io::{self, ErrorKind, Read};
 use std::rt::Files;
 use yexplain::lines::Lines;
+use yexplain::reads::name_of;
 use yfiles::diagnostic::{Diagnostic, Diagnostics};
 use yfiles::place::Place;
-use yfiles::reading::first_bytes;
 use ygrammar::{Grammar, GrammarFault, LONGEST_FILE, Mark, PlacedFault};
-use ylalr::BuildFault;
+use ylalr::{BuildFault, token_count};
 use ylexemes::bytes::is_blank;
 use ytables::Tables;
 use ytokens::token_words::{Front, front_of};
@@ -85,7 +87,10 @@ impl<'a> From<BuildFault> for Trouble<'a> {
 
 /// The bytes of a grammar file, one more than it may have at most.
 pub fn grammar_bytes<F: Files + AllocGlobal>(rt: &F, path: &str) -> io::Result<Vec<u8>> {
-    first_bytes(rt, path, (LONGEST_FILE as u64).saturating_add(1))
+    let most = (LONGEST_FILE as u64).saturating_add(1);
+    let mut bytes = Vec::new(rt.alloc());
+    fs::open(rt, path)?.take(most).read_to_end(&mut bytes)?;
+    Ok(bytes)
 }
 
 /// Says why the grammar file of these bytes isn't opened. No memory is an error, which each program
@@ -123,7 +128,8 @@ pub fn word_place(source: &[u8], number: usize) -> Option<usize> {
     Some(before.saturating_add(blanks))
 }
 
-/// The token that could be meant, where tokens of these bytes have a name that the grammar hasn't.
+/// The token that could be meant, where tokens of these bytes have a name that the grammar hasn't:
+/// the nearest of those that an input can have.
 fn near_token<'a>(
     alloc: Global,
     grammar: &'a Grammar,
@@ -134,10 +140,14 @@ fn near_token<'a>(
         return Ok(None);
     };
     let at = word_place(source, place).unwrap_or(source.len());
-    match front_of(source.get(at..).unwrap_or(&[])) {
-        Front::Word(word, _) => Ok(nearest_token(alloc, grammar, word)?),
-        _ => Ok(None),
+    let Front::Word(word, _) = front_of(source.get(at..).unwrap_or(&[])) else {
+        return Ok(None);
+    };
+    let mut search = Search::new(word);
+    for token in 2..token_count(grammar) {
+        search.offer(alloc, name_of(grammar, token))?;
     }
+    Ok(search.found)
 }
 
 /// What is wrong with tokens of these bytes, as something already has its place.

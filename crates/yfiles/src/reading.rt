@@ -21,13 +21,6 @@ pub struct Limited<'a> {
     pub most: u64,
 }
 
-/// At most so many bytes of a file.
-pub fn first_bytes<F: Files + AllocGlobal>(rt: &F, path: &str, most: u64) -> io::Result<Vec<u8>> {
-    let mut bytes = Vec::new(rt.alloc());
-    fs::open(rt, path)?.take(most).read_to_end(&mut bytes)?;
-    Ok(bytes)
-}
-
 /// All bytes of a reader, or `None` where it has more than so many; one more is read at most.
 pub fn all_bytes<R: Read>(alloc: Global, reader: &mut R, most: u64) -> io::Result<Option<Vec<u8>>> {
     let mut bytes = Vec::new(alloc);
