@@ -186,7 +186,21 @@ impl Lexer {
             places: Vec::new(alloc),
             end: 0,
         };
-        cutting.lex(&mut lexed, bytes)?;
+        let mut at = 0;
+        for _ in 0..bytes.len() {
+            if at >= bytes.len() {
+                break;
+            }
+            let found = cutting.front(bytes.get(at..).unwrap_or(&[]));
+            if found.length == 0 {
+                return Err(TextFault::Unmatched(at));
+            }
+            let end = at.saturating_add(found.length);
+            if let Some(token) = found.token {
+                lexed.push(token, at, end)?;
+            }
+            at = end;
+        }
         Ok(lexed)
     }
 
@@ -199,16 +213,22 @@ impl Lexer {
         let mut tried: usize = 0;
         for (token, text) in self.plain.iter().enumerate() {
             tried = tried.saturating_add(usize::from(text.is_some()));
-            let text = text.as_ref().filter(|_| tried <= most);
-            texts.push(cutting.confirmed(alloc, token, text)?)?;
+            let mut confirmed = None;
+            if let (true, Some(text)) = (tried <= most, text) {
+                let found = cutting.front(text);
+                if found.length == text.len() && found.token == Some(token) {
+                    confirmed = Some(Vec::from_slice(alloc, text)?);
+                }
+            }
+            texts.push(confirmed)?;
         }
         Ok(texts)
     }
 }
 
 impl Cutting<'_> {
-    /// The longest of the literals and words at the front of a rest.
-    fn fixed(&self, rest: &[u8]) -> Found {
+    /// What stands at the front of a rest: the longest of the literals, words and lines.
+    fn front(&mut self, rest: &[u8]) -> Found {
         let first = rest.first().copied().unwrap_or(0);
         let (lexer, grammar) = (self.lexer, self.grammar);
         let literal = lexer.literals.get(usize::from(first)).copied().flatten();
@@ -225,62 +245,12 @@ impl Cutting<'_> {
                 found = found.or(text.len(), Some(word.token));
             }
         }
-        found
-    }
-
-    /// What stands at the front of a rest.
-    fn front(&mut self, rest: &[u8]) -> Found {
-        let mut found = self.fixed(rest);
-        let lexer = self.lexer;
         for (matcher, token) in self.matchers.iter_mut().zip(&lexer.tokens) {
             if let Some(part) = matcher.find(rest) {
                 found = found.or(part.end(), *token);
             }
         }
         found
-    }
-
-    /// A text again, where it is cut into this token alone.
-    fn confirmed(
-        &mut self,
-        alloc: Global,
-        token: Sym,
-        text: Option<&Vec<u8>>,
-    ) -> Made<Option<Vec<u8>>> {
-        let Some(text) = text else {
-            return Ok(None);
-        };
-        let found = self.front(text);
-        if found.length == text.len() && found.token == Some(token) {
-            Ok(Some(Vec::from_slice(alloc, text)?))
-        } else {
-            Ok(None)
-        }
-    }
-
-    /// Takes what stands after so many bytes, and says after how many it ends.
-    fn take(&mut self, lexed: &mut Lexed, bytes: &[u8], at: usize) -> Result<usize, TextFault> {
-        let found = self.front(bytes.get(at..).unwrap_or(&[]));
-        if found.length == 0 {
-            return Err(TextFault::Unmatched(at));
-        }
-        let end = at.saturating_add(found.length);
-        if let Some(token) = found.token {
-            lexed.push(token, at, end)?;
-        }
-        Ok(end)
-    }
-
-    /// Cuts a text into tokens.
-    fn lex(&mut self, lexed: &mut Lexed, bytes: &[u8]) -> Result<(), TextFault> {
-        let mut at = 0;
-        for _ in 0..bytes.len() {
-            if at >= bytes.len() {
-                break;
-            }
-            at = self.take(lexed, bytes, at)?;
-        }
-        Ok(())
     }
 }
 

@@ -41,19 +41,6 @@ struct Making<'a> {
     text: Vec<u8>,
 }
 
-/// The member of a class that a way takes: of those that are liked, or else its first one.
-fn member_of(class: &Class, way: usize) -> Option<u32> {
-    let mut found = class.ranges.first().map(|range| range.0);
-    let liked = LIKED.iter().map(|byte| u32::from(*byte));
-    for member in liked
-        .filter(|member| class.contains(*member))
-        .take(way.saturating_add(1))
-    {
-        found = Some(member);
-    }
-    found
-}
-
 impl<'a> Making<'a> {
     /// The way that the next choice takes.
     fn way(&mut self) -> usize {
@@ -65,10 +52,22 @@ impl<'a> Making<'a> {
         }
     }
 
-    /// The member of a class that the next choice takes.
+    /// The member of a class that the next choice takes: of those that are liked, or else its first
+    /// one.
     fn member(&mut self, class: &Class) -> u32 {
-        let way = self.way();
-        member_of(class, way).unwrap_or(0)
+        let (way, mut count) = (self.way(), 0_usize);
+        let mut found = match class.ranges.first() {
+            Some(range) => range.0,
+            None => 0,
+        };
+        for byte in LIKED {
+            let member = u32::from(*byte);
+            if count <= way && class.contains(member) {
+                found = member;
+                count = count.saturating_add(1);
+            }
+        }
+        found
     }
 
     /// Takes a part of the tree, or puts its own parts on those that are to come: a repeated one as

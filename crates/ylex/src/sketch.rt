@@ -28,12 +28,14 @@ const GUESSES: [(&str, &str); 13] = [
 
 /// The expression that is guessed for a token, whose name may be in capitals or small letters.
 fn guess(name: &[u8]) -> Option<&'static str> {
-    GUESSES
-        .iter()
-        .find(|(words, _)| words
-            .split(' ')
-            .any(|word| word.as_bytes().eq_ignore_ascii_case(name)))
-        .map(|(_, expression)| *expression)
+    for (words, expression) in &GUESSES {
+        for word in words.split(' ') {
+            if word.as_bytes().eq_ignore_ascii_case(name) {
+                return Some(*expression);
+            }
+        }
+    }
+    None
 }
 
 /// Which tokens stand in a line of their own kind.

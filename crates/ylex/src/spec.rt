@@ -69,14 +69,6 @@ impl<'a> Piece<'a> {
         }
     }
 
-    /// The piece without blanks at its end.
-    fn trimmed(self) -> Piece<'a> {
-        let last = self.bytes.iter().rposition(|b| !is_blank(*b));
-        let end = last.map_or(0, |at| at.saturating_add(1));
-        let bytes = self.bytes.get(..end).unwrap_or(&[]);
-        Piece { bytes, ..self }
-    }
-
     /// How many bytes the first word has.
     fn word(self) -> usize {
         match front_of(self.bytes) {
@@ -108,11 +100,6 @@ fn token_of(grammar: &Grammar, piece: Piece<'_>) -> Result<Sym, SpecFault> {
         Some(_) => Err(SpecFault::At(piece.at, Wrong::NoInput)),
         None => Err(SpecFault::At(piece.at, Wrong::Unknown)),
     }
-}
-
-/// Whether a symbol is a literal.
-fn is_literal(grammar: &Grammar, symbol: Sym) -> bool {
-    name_of(grammar, symbol).first() == Some(&b'\'')
 }
 
 impl<'a> Spec<'a> {
@@ -153,7 +140,7 @@ impl<'a> Spec<'a> {
             set(&mut self.named, token, true);
             if listed == Listed::Absent {
                 set(&mut self.absent, token, true);
-            } else if !is_literal(grammar, token) {
+            } else if needs_line(grammar, token) {
                 let folded = listed == Listed::FoldedWords;
                 let word = Word { token, folded };
                 self.words.push(word).map_err(AllocError::from)?;
@@ -163,27 +150,20 @@ impl<'a> Spec<'a> {
         Ok(())
     }
 
-    /// Adds a line with a directive.
-    fn add_directive(&mut self, grammar: &Grammar, line: Piece<'a>) -> Result<(), SpecFault> {
+    /// Adds a line.
+    fn add_line(&mut self, grammar: &Grammar, line: Piece<'a>) -> Result<(), SpecFault> {
         let length = line.plain_word();
         let rest = line.after(length);
         match line.first(length) {
+            [] | [b'#', ..] => Ok(()),
             b"%skip" => self.add_rule(None, rest),
             b"%keywords" if rest.first(rest.plain_word()) == b"-i".as_slice() => {
                 self.add_names(grammar, rest.after(2), Listed::FoldedWords)
             }
             b"%keywords" => self.add_names(grammar, rest, Listed::Words),
             b"%none" => self.add_names(grammar, rest, Listed::Absent),
-            _ => Err(SpecFault::At(line.at, Wrong::Directive)),
-        }
-    }
-
-    /// Adds a line.
-    fn add_line(&mut self, grammar: &Grammar, line: Piece<'a>) -> Result<(), SpecFault> {
-        match line.bytes.first() {
-            None | Some(b'#') => Ok(()),
-            Some(b'%') => self.add_directive(grammar, line),
-            Some(_) => {
+            [b'%', ..] => Err(SpecFault::At(line.at, Wrong::Directive)),
+            _ => {
                 let token = token_of(grammar, line)?;
                 set(&mut self.named, token, true);
                 self.add_rule(Some(token), line.after(line.word()))
@@ -206,8 +186,10 @@ pub fn read_spec<'a>(
     };
     let mut at: usize = 0;
     for bytes in source.split(|b| *b == b'\n') {
-        let line = Piece { bytes, at };
-        spec.add_line(grammar, line.after(0).trimmed())?;
+        let last = bytes.iter().rposition(|b| !is_blank(*b));
+        let end = last.map_or(0, |at| at.saturating_add(1));
+        let line = bytes.get(..end).unwrap_or(&[]);
+        spec.add_line(grammar, Piece { bytes: line, at }.after(0))?;
         at = at.saturating_add(bytes.len()).saturating_add(1);
     }
     Ok(spec)
@@ -215,5 +197,5 @@ pub fn read_spec<'a>(
 
 /// Whether a token of a body needs a line: it is an input token and no literal.
 pub fn needs_line(grammar: &Grammar, token: Sym) -> bool {
-    is_input(grammar, token) && !is_literal(grammar, token)
+    is_input(grammar, token) && name_of(grammar, token).first() != Some(&b'\'')
 }

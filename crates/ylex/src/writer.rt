@@ -20,11 +20,12 @@ const MOST_WAYS: usize = 3;
 /// What writes lists of tokens as texts.
 #[derive(Drop)]
 pub struct Writer {
-    lexer: Lexer,
+    /// What cuts the texts.
+    pub lexer: Lexer,
     /// The text of each token, where one is found.
     samples: Vec<Option<Vec<u8>>>,
-    /// What may stand between tokens, the first ones rather than the last; nothing is the last.
-    separators: Vec<Vec<u8>>,
+    /// What may stand between tokens, in the order in which it is tried; nothing is the last.
+    pub separators: Vec<Vec<u8>>,
 }
 
 /// What texts are tried with.
@@ -35,25 +36,14 @@ struct Trial<'a> {
     lexer: &'a Lexer,
 }
 
-/// Whether a lexer cuts a text into exactly these tokens.
-fn is_cut(
-    alloc: Global,
-    grammar: &Grammar,
-    lexer: &Lexer,
-    text: &[u8],
-    tokens: &[Sym],
-) -> io::Result<bool> {
-    match lexer.lex(alloc, grammar, text) {
-        Ok(lexed) => Ok(lexed.tokens.symbols.as_slice() == tokens),
-        Err(TextFault::Memory) => Err(io::Error::from(ErrorKind::OutOfMemory)),
-        Err(TextFault::Unmatched(_) | TextFault::TooMany(_)) => Ok(false),
-    }
-}
-
 impl Trial<'_> {
     /// Whether a text is cut into exactly these tokens.
     fn is_cut(self, text: &[u8], tokens: &[Sym]) -> io::Result<bool> {
-        is_cut(self.alloc, self.grammar, self.lexer, text, tokens)
+        match self.lexer.lex(self.alloc, self.grammar, text) {
+            Ok(lexed) => Ok(lexed.tokens.symbols.as_slice() == tokens),
+            Err(TextFault::Memory) => Err(io::Error::from(ErrorKind::OutOfMemory)),
+            Err(TextFault::Unmatched(_) | TextFault::TooMany(_)) => Ok(false),
+        }
     }
 
     /// The text of a tree by a taste, where it is cut into what is wanted.
@@ -69,11 +59,14 @@ impl Trial<'_> {
         }
     }
 
-    /// A text of a tree that is cut into what is wanted, where one is found: with the first way at
-    /// each choice, or another way at one of the first choices, or at all.
-    fn by_tree(self, tree: &Hir, wanted: &[Sym]) -> io::Result<Option<Vec<u8>>> {
+    /// A text of an expression that is cut into what is wanted, where one is found: with the first
+    /// way at each choice, or another way at one of the first choices, or at all.
+    fn by_regex(self, regex: &Regex, wanted: &[Sym]) -> io::Result<Option<Vec<u8>>> {
+        let Some(tree) = tree_of(self.alloc, regex.as_str())? else {
+            return Ok(None);
+        };
         let choice = None;
-        let first = self.by_taste(tree, Taste { choice, way: 0 }, wanted)?;
+        let first = self.by_taste(&tree, Taste { choice, way: 0 }, wanted)?;
         if first.is_some() {
             return Ok(first);
         }
@@ -84,21 +77,13 @@ impl Trial<'_> {
                 } else {
                     None
                 };
-                let found = self.by_taste(tree, Taste { choice, way }, wanted)?;
+                let found = self.by_taste(&tree, Taste { choice, way }, wanted)?;
                 if found.is_some() {
                     return Ok(found);
                 }
             }
         }
         Ok(None)
-    }
-
-    /// A text of an expression that is cut into what is wanted, where one is found.
-    fn by_regex(self, regex: &Regex, wanted: &[Sym]) -> io::Result<Option<Vec<u8>>> {
-        match tree_of(self.alloc, regex.as_str())? {
-            Some(tree) => self.by_tree(&tree, wanted),
-            None => Ok(None),
-        }
     }
 
     /// How a token is spelled that stands for itself.
@@ -130,16 +115,6 @@ impl Trial<'_> {
             }
         }
         Ok(None)
-    }
-
-    /// The text of each token, where one is found.
-    fn samples(self) -> io::Result<Vec<Option<Vec<u8>>>> {
-        let mut samples = Vec::new(self.alloc);
-        for token in 0..self.grammar.symbols() {
-            let sample = self.sample(token)?;
-            samples.push(sample).map_err(AllocError::from)?;
-        }
-        Ok(samples)
     }
 
     /// Adds a separator, where it is passed over.
@@ -180,7 +155,11 @@ impl Writer {
             grammar,
             lexer: &lexer,
         };
-        let samples = trial.samples()?;
+        let mut samples = Vec::new(alloc);
+        for token in 0..grammar.symbols() {
+            let sample = trial.sample(token)?;
+            samples.push(sample).map_err(AllocError::from)?;
+        }
         let separators = trial.separators()?;
         Ok(Writer {
             lexer,
@@ -189,21 +168,11 @@ impl Writer {
         })
     }
 
-    /// What cuts the texts.
-    pub fn lexer(&self) -> &Lexer {
-        &self.lexer
-    }
-
     /// Whether a text is found for a token.
     pub fn tells(&self, token: Sym) -> bool {
         self.samples
             .get(token)
             .map_or(false, |sample| sample.is_some())
-    }
-
-    /// What may stand between tokens, in the order in which it is tried.
-    pub fn separators(&self) -> &[Vec<u8>] {
-        &self.separators
     }
 
     /// The texts of tokens with a separator between them, which is still to be tried; `None` where
@@ -229,9 +198,14 @@ impl Writer {
         grammar: &Grammar,
         tokens: &[Sym],
     ) -> io::Result<Option<Vec<u8>>> {
+        let trial = Trial {
+            alloc,
+            grammar,
+            lexer: &self.lexer,
+        };
         for separator in &self.separators {
             if let Some(text) = self.joined(alloc, tokens, separator)? {
-                if is_cut(alloc, grammar, &self.lexer, &text, tokens)? {
+                if trial.is_cut(&text, tokens)? {
                     return Ok(Some(text));
                 }
             }
@@ -248,9 +222,14 @@ impl Writer {
         text: &[u8],
         tokens: &[Sym],
     ) -> io::Result<Vec<u8>> {
+        let trial = Trial {
+            alloc,
+            grammar,
+            lexer: &self.lexer,
+        };
         let mut filed = Vec::from_slice(alloc, text)?;
         filed.push(b'\n')?;
-        if !is_cut(alloc, grammar, &self.lexer, &filed, tokens)? {
+        if !trial.is_cut(&filed, tokens)? {
             filed.pop();
         }
         Ok(filed)

@@ -150,7 +150,7 @@ impl<'a> Update<'a> {
     pub fn line(self, confirmed: &Confirmed) -> io::Result<Option<Vec<u8>>> {
         let inputs = Inputs {
             tables: self.tables,
-            lexer: self.writer.map(|writer| writer.lexer()),
+            lexer: self.writer.map(|writer| &writer.lexer),
         };
         let list = (confirmed.tokens.as_slice(), confirmed.last);
         line_of(self.alloc, inputs, self.writer, list)

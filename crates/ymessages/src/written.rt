@@ -79,7 +79,7 @@ pub fn line_of(
     let Some(writer) = writer else {
         return Ok(Some(names_of(alloc, grammar_of(inputs.tables), tokens, last)?));
     };
-    for separator in writer.separators() {
+    for separator in &writer.separators {
         if let Some(line) = joined(alloc, writer, list, separator)? {
             if is_input(alloc, inputs, &line, list)? {
                 return Ok(Some(line));

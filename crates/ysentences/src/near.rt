@@ -51,7 +51,7 @@ impl Near {
         let (mut inputs, marks) = (Vec::new(alloc), used_in(alloc, grammar)?);
         for (symbol, used) in marks.iter().enumerate() {
             let is_given = match writer {
-                Some(writer) => writer.lexer().gives(symbol),
+                Some(writer) => writer.lexer.gives(symbol),
                 None => true,
             };
             if *used && grammar.is_token(symbol) && symbol > ERROR && is_given {
