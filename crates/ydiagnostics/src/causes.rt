@@ -7,12 +7,12 @@ use crate::scene::Scene;
 use serde::Serialize;
 use yambiguity::answer::{Answer, Sentence};
 use yambiguity::choice::Choice;
-use ycounterexample::groups::MOST_RIVALS;
 use yexplain::reads::{Made, body_of, grammar_of, next_of};
 use yexplain::text::{ItemText, RuleText};
 use ylalr::Item;
 use yreports::blocks::{Block, category_of};
 use yreports::offer::Offer;
+use ysearch::groups::MOST_RIVALS;
 use ysymbols::let_go;
 
 /// The most nodes of a tree that are listed.

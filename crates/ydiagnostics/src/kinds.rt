@@ -2,13 +2,13 @@
 
 use serde::Serialize;
 use std::alloc::Global;
-use ycounterexample::finding::{Allows, Finding};
-use ycounterexample::groups::{Conflicts, Group, Kind};
-use ycounterexample::trial::Trial;
 use yexplain::lines::Lines;
 use yexplain::reads::Made;
 use yexplain::text::{Name, RuleText};
 use yfiles::diagnostic::Severity;
+use ysearch::finding::{Allows, Finding};
+use ysearch::groups::{Conflicts, Group, Kind};
+use ysearch::trial::Trial;
 use ysymbols::{Grammar, Sym, let_go};
 
 /// A rule: its number, its place and its text.

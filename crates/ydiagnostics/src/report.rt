@@ -12,7 +12,6 @@ use std::rt::Files;
 use yaccepted::expected::{Counts, Expectation};
 use yaccepted::judged::{self, Judged, Telling, judge};
 use yaccepted::opening::{Counted, File, open_counted};
-use ycounterexample::groups::Conflicts;
 use yexplain::reads::grammar_of;
 use yfaults::opening::Opened;
 use yfiles::category::Choice;
@@ -21,6 +20,7 @@ use yparse::Session;
 use yreports::blocks::shown_of;
 use yreports::causes::causes_of;
 use yreports::warnings::warnings_of;
+use ysearch::groups::Conflicts;
 use ysearch::trial::empty_session;
 
 /// What is asked for.

@@ -3,13 +3,13 @@
 use std::alloc::{AllocError, Global};
 use std::io;
 use yambiguity::answer::{Ambiguities, Answer};
-use ycounterexample::finding::{Finding, Seeker};
-use ycounterexample::groups::Conflicts;
 use yexplain::lines::Lines;
 use yparse::Session;
 use yreports::also::try_hints;
 use yreports::ambiguity::block_answers;
 use yreports::blocks::{Blocks, blocks_of};
+use ysearch::finding::{Finding, Seeker};
+use ysearch::groups::Conflicts;
 
 /// The most kinds for which lists are sought.
 const MOST_SOUGHT: usize = 200;

@@ -6,14 +6,14 @@ use crate::scene::Scene;
 use std::alloc::{AllocError, Global};
 use std::io::{self, Write};
 use yambiguity::answer::Answer;
-use ycounterexample::finding::Finding;
-use ycounterexample::groups::{Conflicts, Group, Kind};
 use yexplain::reads::grammar_of;
 use yexplain::text::{Name, Names, RuleText};
 use yfiles::diagnostic::{Diagnostic, Diagnostics, Note, Severity};
 use yfiles::place::Spot;
 use yreports::blocks::{Block, category_of};
 use yreports::offer::Offer;
+use ysearch::finding::Finding;
+use ysearch::groups::{Conflicts, Group, Kind};
 
 /// The most tokens that are named.
 const MOST_TOKENS: usize = 20;

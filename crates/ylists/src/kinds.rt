@@ -1,9 +1,9 @@
 //! The conflicts of tables, in short.
 
 use std::io::Write;
-use ycounterexample::groups::{Conflicts, Group};
 use yexplain::lines::{Lines, Spot};
 use yexplain::why::put_cell;
+use ysearch::groups::{Conflicts, Group};
 use ytables::Tables;
 use yview::page::Page;
 

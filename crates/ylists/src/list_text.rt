@@ -1,12 +1,12 @@
 //! How lists of tokens are written: which rivals a list allows, its tokens, what a parse comes to.
 
 use std::io::Write;
-use ycounterexample::finding::{Allows, Finding, List};
-use ycounterexample::groups::{Group, Kind};
-use ycounterexample::trial::Trial;
 use yexplain::lines::Lines;
 use yexplain::reads::grammar_of;
 use yexplain::text::{Name, Names, Numbered};
+use ysearch::finding::{Allows, Finding, List};
+use ysearch::groups::{Group, Kind};
+use ysearch::trial::Trial;
 use ysymbols::Sym;
 use ytables::Tables;
 use yview::page::Page;

@@ -65,7 +65,7 @@ fn lacking_in(alloc: Global, grammar: &Grammar, writer: Option<&Writer>) -> Made
     let (mut absent, mut untold) = (Vec::new(alloc), Vec::new(alloc));
     if let Some(writer) = writer {
         for token in 0..grammar.symbols() {
-            absent.push(token != END && !writer.lexer().gives(token))?;
+            absent.push(token != END && !writer.lexer.gives(token))?;
             untold.push(token != END && !writer.tells(token))?;
         }
     }

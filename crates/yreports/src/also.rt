@@ -3,10 +3,10 @@
 use crate::blocks::{Blocks, Entry};
 use crate::tried::{Marks, Tried, counted, tried_of};
 use std::alloc::Global;
-use ycounterexample::groups::Conflicts;
 use yexplain::advice::{Advice, Hint};
 use yexplain::lines::Lines;
 use yexplain::reads::{Made, grammar_of, level_of, set};
+use ysearch::groups::Conflicts;
 use ysymbols::{Grammar, Sym};
 use ytables::Tables;
 

@@ -7,8 +7,8 @@ use std::alloc::Global;
 use std::io::{self, Write};
 use yambiguity::answer::{Ambiguities, Answer, Rivals};
 use yambiguity::choice::{Cell, Choice};
-use ycounterexample::finding::{Allows, Finding, Seeker};
 use yexplain::reads::Made;
+use ysearch::finding::{Allows, Finding, Seeker};
 use yview::page::Page;
 
 /// The most rules of a block that are set against what is taken.

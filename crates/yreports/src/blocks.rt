@@ -1,11 +1,11 @@
 //! Conflicts in blocks: those of one state between the same rivals, with what settled them.
 
 use std::alloc::Global;
-use ycounterexample::groups::{Conflicts, Group, Kind};
 use yexplain::lines::Lines;
 use yexplain::reads::Made;
 use yexplain::why::{Question, Settled};
 use yfiles::category::{Categories, Category};
+use ysearch::groups::{Conflicts, Group, Kind};
 use ytables::Tables;
 
 /// The most kinds that are put into blocks.

@@ -5,10 +5,10 @@ use crate::covered::{Covered, covered_of};
 use crate::tried::{Marks, Tried, counted, tried_of};
 use indexmap::IndexMap;
 use std::alloc::Global;
-use ycounterexample::groups::Conflicts;
 use yexplain::lines::{Lines, is_inner};
 use yexplain::reads::{Made, grammar_of, level_of, set};
 use ylalr::END;
+use ysearch::groups::Conflicts;
 use ysymbols::{Grammar, Sym};
 use ytables::Tables;
 

@@ -2,8 +2,8 @@
 
 use crate::ambiguity::are_twins;
 use yambiguity::answer::Answer;
-use ycounterexample::finding::Finding;
 use ylists::list_text::is_merged;
+use ysearch::finding::Finding;
 
 /// What is offered.
 #[derive(Clone, Copy)]

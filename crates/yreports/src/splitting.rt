@@ -4,10 +4,10 @@ use crate::changed::conflicts_after;
 use crate::changed_text::Change;
 use std::alloc::Global;
 use std::io::{self, Write};
-use ycounterexample::groups::Kind;
 use yexplain::lines::{Lines, is_inner};
 use yexplain::reads::{Made, body_of, grammar_of, left_of};
 use yexplain::text::{Name, Numbered};
+use ysearch::groups::Kind;
 use ysymbols::{Grammar, Sym};
 use ytables::Tables;
 

@@ -1,10 +1,10 @@
 //! Cells with conflicts, and how many they would count with other precedences.
 
 use std::alloc::Global;
-use ycounterexample::groups::Conflicts;
 use yexplain::lines::Lines;
 use yexplain::reads::Made;
 use yexplain::supposed::{Contest, Supposed};
+use ysearch::groups::Conflicts;
 use ysymbols::Grammar;
 use ytables::Tables;
 

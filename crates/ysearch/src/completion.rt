@@ -117,7 +117,7 @@ impl Search<'_> {
         let Spot { below, left } = node.spot;
         let (automaton, shortest) = (self.automaton, self.shortest);
         let state = self.states.get(below).copied().unwrap_or(0);
-        let places = shortest.places(left);
+        let places = shortest.places.of(left);
         self.looked = self.looked.saturating_add(places.len());
         for item in places {
             if has_item(automaton, state, *item) {

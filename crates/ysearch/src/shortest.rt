@@ -36,10 +36,10 @@ pub struct Shortest {
     lengths: Vec<Option<u64>>,
     digests: Vec<Digest>,
     firsts: Vec<Option<usize>>,
-    /// The items with their dot before each symbol.
-    places: Lists<Item>,
+    /// The items with their dot before each symbol, by rising rules and dots.
+    pub places: Lists<Item>,
     /// The rules of each left side.
-    rules: Lists<usize>,
+    pub rules: Lists<usize>,
 }
 
 /// A rule whose body isn't known yet: how many of its symbols are still to come, and the length of
@@ -58,12 +58,10 @@ struct Making {
     found: Shortest,
 }
 
-impl Digest {
-    /// The digest of no tokens.
-    pub fn empty() -> Digest {
-        Digest { sum: 0, factor: 1 }
-    }
+/// The digest of no tokens.
+pub const NO_TOKENS: Digest = Digest { sum: 0, factor: 1 };
 
+impl Digest {
     /// The digest of this list and another after it.
     pub fn before(self, rest: Digest) -> Digest {
         Digest {
@@ -124,7 +122,7 @@ impl Making {
             let Some((length, rule)) = self.queue.take() else {
                 break;
             };
-            let mut digest = Digest::empty();
+            let mut digest = NO_TOKENS;
             for symbol in body_of(grammar, rule) {
                 digest = digest.before(self.found.digest(*symbol));
             }
@@ -145,7 +143,7 @@ impl Shortest {
             queue: Queue::new(alloc),
             found: Shortest {
                 lengths: vec![in alloc; None; symbols]?,
-                digests: vec![in alloc; Digest::empty(); symbols]?,
+                digests: vec![in alloc; NO_TOKENS; symbols]?,
                 firsts: vec![in alloc; None; symbols]?,
                 places: Lists::new(alloc, symbols)?,
                 rules: Lists::new(alloc, symbols)?,
@@ -183,22 +181,12 @@ impl Shortest {
 
     /// The digest of the shortest sentence of a symbol.
     pub fn digest(&self, symbol: Sym) -> Digest {
-        self.digests.get(symbol).copied().unwrap_or(Digest::empty())
+        self.digests.get(symbol).copied().unwrap_or(NO_TOKENS)
     }
 
     /// The rule with which the shortest sentence of a nonterminal begins; none for a token.
     pub fn first(&self, symbol: Sym) -> Option<usize> {
         self.firsts.get(symbol).copied().flatten()
-    }
-
-    /// The items with their dot before a symbol, by rising rules and dots.
-    pub fn places(&self, symbol: Sym) -> &[Item] {
-        self.places.of(symbol)
-    }
-
-    /// The rules of a left side.
-    pub fn rules(&self, left: Sym) -> &[usize] {
-        self.rules.of(left)
     }
 
     /// The shortest sentence of a form, or none where it is too long to be written out.

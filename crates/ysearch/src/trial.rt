@@ -1,13 +1,16 @@
 //! Lists of tokens that are tried in a session: each is put before what is upcoming, the parse goes
-//! on over it, and then all the way back.
+//! on over it, and then all the way back; and whether one gets a parse to a cell.
 
 use std::alloc::Global;
 use std::io::{self, ErrorKind};
 use ylalr::{END, ERROR};
-use ymachine::machine::{StepFault, StepKind};
+use ymachine::machine::{Mode, StepFault, StepKind};
 use yparse::{Session, Tokens};
 use ysymbols::Sym;
 use ytables::Tables;
+
+/// The most steps without a shift in a row of a parse to a cell.
+const MOST_IN_A_ROW: usize = 10_000;
 
 /// How many steps a parse over a list has made, and how many it may make.
 #[derive(Clone, Copy, Drop)]
@@ -97,4 +100,77 @@ pub fn go_back(session: &mut Session) {
     for _ in 0..session.position() {
         let _ = session.back();
     }
+}
+
+/// What a parse over a list of tokens comes to.
+#[derive(Clone, Copy, Drop, PartialEq, Eq)]
+pub enum Trial {
+    /// After so many steps the state is reached with the token ahead.
+    Reached(usize),
+    /// After so many steps the state is reached with the token ahead, but after an error.
+    Recovered(usize),
+    /// The parse goes another way.
+    Missed,
+    /// The parse was given up after so many steps.
+    Late(usize),
+    /// The list has `error`, which no list of tokens has.
+    HasError,
+}
+
+/// The cell that a parse is to come to, and how many steps it may take.
+#[derive(Clone, Copy, Drop)]
+pub struct Goal {
+    /// The state.
+    pub state: usize,
+    /// The token that has to be ahead there.
+    pub token: Sym,
+    /// The most steps that the parse may take.
+    pub most: usize,
+}
+
+impl Goal {
+    /// What the parse has come to after so many steps, after an error or none; `None` where it may
+    /// go on.
+    fn reached(self, session: &Session, steps: usize, had_error: bool) -> Option<Trial> {
+        let rest = session.view().rest_len();
+        // how many tokens are upcoming there
+        let left = if self.token == END { 0 } else { 1 };
+        match session.view().mode() {
+            _ if rest < left => Some(Trial::Missed),
+            Mode::Running if rest > left || session.state() != self.state => None,
+            Mode::Running if had_error => Some(Trial::Recovered(steps)),
+            Mode::Running => Some(Trial::Reached(steps)),
+            Mode::Popping => None,
+            Mode::Accepted | Mode::Failed => Some(Trial::Missed),
+        }
+    }
+}
+
+/// Tries a list of tokens with the goal's token after it, in a session at its start, which is
+/// left there unless memory runs out. Gives what the parse comes to and how many steps and edits
+/// that took.
+pub fn try_list(session: &mut Session, tokens: &[Sym], goal: Goal) -> io::Result<(Trial, usize)> {
+    let (mut pace, mut had_error) = (Pace::new(goal.most, MOST_IN_A_ROW), false);
+    let mut trial = Trial::HasError;
+    if put_with_last(session, tokens, goal.token)? {
+        trial = Trial::Late(goal.most);
+        for steps in 0..goal.most {
+            if let Some(reached) = goal.reached(session, steps, had_error) {
+                trial = reached;
+                break;
+            }
+            let Some(kind) = pace.step(session)? else {
+                trial = if pace.is_spent() {
+                    Trial::Late(steps)
+                } else {
+                    Trial::Missed
+                };
+                break;
+            };
+            had_error = had_error || kind == StepKind::Detect;
+        }
+    }
+    let steps = session.position();
+    go_back(session);
+    Ok((trial, steps))
 }

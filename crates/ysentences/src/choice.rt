@@ -174,7 +174,7 @@ impl<'a> Chooser<'a> {
     fn offer(&mut self, tokens: Vec<Sym>) -> io::Result<()> {
         let is_accepted = self.trier.accepts(&tokens)?;
         let steps = self.trier.steps.saturating_add(tokens.len());
-        self.seeker.finder.spend(steps);
+        self.seeker.finder.steps.spend(steps);
         if !is_accepted {
             return Ok(());
         }

@@ -41,7 +41,7 @@ impl Contexts {
             let Some((length, left)) = contexts.around.take() else {
                 break;
             };
-            for rule in shortest.rules(left) {
+            for rule in shortest.rules.of(left) {
                 contexts.enter(grammar, shortest, *rule, length)?;
             }
         }

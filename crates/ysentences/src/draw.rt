@@ -64,7 +64,7 @@ impl Drawing<'_> {
     fn rules(&self, left: Sym, longer: bool) -> Made<Vec<(usize, u64)>> {
         let (shortest, mut rules) = (self.shortest, Vec::new(self.alloc));
         let beside = self.least.saturating_sub(shortest.length(left));
-        for rule in shortest.rules(left) {
+        for rule in shortest.rules.of(left) {
             let body = shortest.length_of(body_of(self.grammar, *rule));
             let least = beside.saturating_add(body);
             if least <= self.most && (least > self.least || !longer) {

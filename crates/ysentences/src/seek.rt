@@ -3,11 +3,11 @@
 use crate::trial::Trier;
 use std::alloc::{AllocError, Global};
 use std::io;
-use ycounterexample::others::Others;
-use ycounterexample::search::{Finder, Found, Target};
 use yexplain::reads::{Made, action_of, goto_of};
 use ylalr::{Automaton, END};
 use ysearch::completion::{End, Ties, end_over, rest_of};
+use ysearch::others::Others;
+use ysearch::search::{Finder, Found, Target};
 use ysymbols::Sym;
 use ytables::{Action, Tables};
 
@@ -109,7 +109,7 @@ impl Seeker {
         let (alloc, shortest) = (self.alloc, &self.finder.shortest);
         let end = end_over(alloc, shortest, automaton, states, Ties::Last, u64::MAX)?;
         let End { items, looked } = end;
-        self.finder.spend(looked);
+        self.finder.steps.spend(looked);
         let Some(items) = items else {
             return Ok(Sought::Late);
         };
@@ -158,7 +158,7 @@ impl Seeker {
             tokens.push(token).map_err(AllocError::from)?;
         }
         let found = trier.stack_after(&tokens)?;
-        self.finder.spend(trier.steps);
+        self.finder.steps.spend(trier.steps);
         match found {
             Some(states) => {
                 let tables = trier.session.tables();

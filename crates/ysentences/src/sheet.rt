@@ -9,7 +9,6 @@ use crate::seek::MOST_TOKENS;
 use std::alloc::Global;
 use std::io::{self, Write};
 use std::rt::Files;
-use ycounterexample::search::ALL_STEPS;
 use yexplain::lines::newlines;
 use yexplain::reads::grammar_of;
 use yexplain::text::{Name, Names};
@@ -17,6 +16,7 @@ use yinput::verdict::{Verdict, verdict_on};
 use ylex::writer::Writer;
 use ylists::saving::Folder;
 use yparse::Tokens;
+use ysearch::search::ALL_STEPS;
 use ysymbols::{Grammar, Sym};
 
 /// The most elements that are named which a sentence is the first to use.

@@ -1,12 +1,12 @@
 //! Further lists of tokens for a cell, the shortest first: all sentences of the ways to it.
 
+use crate::queue::Queue;
 use crate::search::{Finder, Found, Search, Target};
+use crate::shortest::Shortest;
 use std::alloc::Global;
 use std::collections::HashSet;
 use yexplain::reads::{Made, body_of};
 use ylalr::Automaton;
-use ysearch::queue::Queue;
-use ysearch::shortest::Shortest;
 use ysymbols::{Grammar, Sym};
 
 /// How many ways are sought.
@@ -45,17 +45,6 @@ pub struct Others {
 }
 
 impl Sentences {
-    /// Nothing waits, and so many forms may be taken in.
-    fn new(alloc: Global, most: usize) -> Sentences {
-        Sentences {
-            met: HashSet::new(alloc),
-            forms: Vec::new(alloc),
-            queue: Queue::new(alloc),
-            left: most,
-            symbols: 0,
-        }
-    }
-
     /// Takes a form in, where it is new and not too long.
     fn add(&mut self, shortest: &Shortest, form: Vec<Sym>) -> Made<()> {
         self.symbols = self.symbols.saturating_add(form.len());
@@ -105,7 +94,7 @@ impl Sentences {
         (form, place): (&[Sym], usize),
     ) -> Made<()> {
         let symbol = form.get(place).copied().unwrap_or(0);
-        for rule in shortest.rules(symbol) {
+        for rule in shortest.rules.of(symbol) {
             if self.left > 0 {
                 let mut next = Vec::new(alloc);
                 next.extend_from_slice(form.get(..place).unwrap_or(&[]))?;
@@ -132,7 +121,13 @@ impl Others {
             search: finder.search(automaton, target, MOST_WAYS)?,
             way: None,
             done: false,
-            sentences: Sentences::new(alloc, forms),
+            sentences: Sentences {
+                met: HashSet::new(alloc),
+                forms: Vec::new(alloc),
+                queue: Queue::new(alloc),
+                left: forms,
+                symbols: 0,
+            },
         })
     }
 
@@ -161,7 +156,7 @@ impl Others {
             } else if let Some((way, _)) = self.way.take() {
                 self.sentences.add(shortest, way)?;
             }
-            finder.spend(self.sentences.symbols.saturating_sub(before));
+            finder.steps.spend(self.sentences.symbols.saturating_sub(before));
             if found.is_some() {
                 return Ok(found);
             }

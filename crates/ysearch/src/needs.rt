@@ -1,10 +1,10 @@
 //! What has to hold in a state so that a rule can be reduced at a token further on: an item must
 //! have that token as its lookahead, by one of the ways that canonical LR(1) items know.
 
+use crate::shortest::Shortest;
 use std::alloc::Global;
 use yexplain::reads::{Made, begins_with, body_of, has_item, left_of, looks_at, set, vanishes};
 use ylalr::{Automaton, Item};
-use ysearch::shortest::Shortest;
 use ysymbols::{Grammar, Sym};
 
 /// What a state has to fulfil.
@@ -153,7 +153,7 @@ impl Needs {
             let Some(left) = self.lefts.get(number).copied() else {
                 break;
             };
-            if self.take_all(automaton, state, shortest.places(left), token, &mut found)? {
+            if self.take_all(automaton, state, shortest.places.of(left), token, &mut found)? {
                 found.clear();
                 found.push(Need::Free)?;
                 break;

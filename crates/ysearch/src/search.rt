@@ -1,15 +1,15 @@
 //! The shortest ways to a state on which complete items have a token as their lookahead, by the
 //! canonical LR(1) items: sought backward from the state, the least possible length first.
 
+use crate::budget::Share;
+use crate::moves::Moves;
 use crate::needs::{Need, Needs};
+use crate::queue::Queue;
+use crate::shortest::{Digest, NO_TOKENS, Shortest};
 use std::alloc::Global;
 use std::collections::{HashMap, HashSet};
 use yexplain::reads::Made;
 use ylalr::{Automaton, Item};
-use ysearch::budget::Share;
-use ysearch::moves::Moves;
-use ysearch::queue::Queue;
-use ysearch::shortest::{Digest, Shortest};
 use ysymbols::{Sym, let_go};
 
 /// The most spots that the search for one way meets, and that for several ways.
@@ -112,7 +112,7 @@ pub struct Finder {
     one: Share,
     several: Share,
     /// How many steps of all kinds may be taken.
-    steps: Share,
+    pub steps: Share,
 }
 
 impl Drop for Finder {
@@ -142,11 +142,6 @@ impl Search {
         }
         Ok(None)
     }
-
-    /// The need of a place.
-    fn need(&self, place: usize) -> Need {
-        self.needs.get(place).copied().unwrap_or(Need::Free)
-    }
 }
 
 impl Finder {
@@ -169,11 +164,6 @@ impl Finder {
     /// Whether there are steps left for further searches.
     pub fn has_steps(&self) -> bool {
         self.steps.left > TOO_FEW_STEPS
-    }
-
-    /// Takes steps from those that are left.
-    pub fn spend(&mut self, steps: usize) {
-        self.steps.spend(steps);
     }
 
     /// Whether what a search allows isn't spent yet, of the steps of all kinds.
@@ -211,7 +201,7 @@ impl Finder {
         let node = Node {
             spot,
             length: 0,
-            digest: Digest::empty(),
+            digest: NO_TOKENS,
             next: None,
         };
         self.put(&mut search, node)?;
@@ -276,7 +266,7 @@ impl Finder {
             .needs
             .of(self.alloc, automaton, shortest, (state, item), token)?;
         let looked = self.needs.looked;
-        self.spend(looked);
+        self.steps.spend(looked);
         let start = search.needs.len();
         search.needs.extend_from_slice(&needs)?;
         let stretch = (start, search.needs.len());
@@ -293,11 +283,13 @@ impl Finder {
             if search.left == 0 {
                 break;
             }
+            let first = search.needs.get(place).copied().unwrap_or(Need::Free);
             for other in seconds.0..seconds.1 {
+                let second = search.needs.get(other).copied().unwrap_or(Need::Free);
                 let spot = Spot {
                     state,
-                    first: search.need(place),
-                    second: search.need(other),
+                    first,
+                    second,
                 };
                 self.put(search, Node { spot, ..node })?;
             }
@@ -318,7 +310,7 @@ impl Finder {
         let length = node.length.saturating_add(self.shortest.length(symbol));
         let digest = self.shortest.digest(symbol).before(node.digest);
         let count = self.moves.before(spot.state).len();
-        self.spend(count);
+        self.steps.spend(count);
         for place in 0..count {
             let Some(state) = self.moves.before(spot.state).get(place).copied() else {
                 break;

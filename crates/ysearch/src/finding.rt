@@ -1,5 +1,6 @@
 //! The lists of tokens that get to a conflict, each tried in a session.
 
+use crate::budget::Share;
 use crate::groups::{Group, Kind};
 use crate::others::Others;
 use crate::search::{Finder, Found, Target};
@@ -9,7 +10,6 @@ use std::io;
 use yexplain::reads::Made;
 use ylalr::END;
 use yparse::Session;
-use ysearch::budget::Share;
 use ysymbols::{Sym, let_go};
 
 /// How many lists are tried, the first one among them, where that one doesn't get there.
@@ -216,7 +216,8 @@ impl<'a> Seeker<'a> {
             tried: 0,
             recovered: false,
         };
-        if trial.is_missed() {
+        // the parse doesn't come to the state without an error, or was given up before
+        if matches!(trial, Trial::Missed | Trial::Recovered(_) | Trial::Late(_)) {
             self.try_others(goal, &mut list)?;
         }
         finding.lists.push(list).map_err(AllocError::from)?;
@@ -231,11 +232,11 @@ impl<'a> Seeker<'a> {
             most,
         };
         let (trial, steps) = try_list(self.session, tokens, cell)?;
-        self.finder.spend(steps);
+        self.finder.steps.spend(steps);
         Ok((trial, steps))
     }
 
-    /// Tries the next lists, so many at most, until the parse gets there.
+    /// Tries the next lists, so many at most, until the parse gets there; that one is kept.
     fn try_others(&mut self, goal: Goal, list: &mut List) -> io::Result<()> {
         let automaton = self.session.tables().automaton();
         let finder = &mut self.finder;
@@ -247,32 +248,21 @@ impl<'a> Seeker<'a> {
                 break;
             };
             if tokens.as_slice() != list.tokens.as_slice() {
-                left = left.saturating_sub(self.try_other(goal, tokens, left, list)?);
+                list.tried = list.tried.saturating_add(1);
+                let (trial, steps) = self.tried(goal, &tokens, left)?;
+                self.steps_for_others.spend(steps);
+                left = left.saturating_sub(steps);
+                match trial {
+                    Trial::Reached(steps) => list.other = Some((tokens, steps)),
+                    Trial::Recovered(_) => list.recovered = true,
+                    Trial::Missed | Trial::Late(_) | Trial::HasError => {}
+                }
             }
             if left == 0 || list.other.is_some() || !self.finder.has_steps() {
                 break;
             }
         }
         Ok(())
-    }
-
-    /// Tries another list, keeps it where the parse gets there, and gives the steps that it took.
-    fn try_other(
-        &mut self,
-        goal: Goal,
-        tokens: Vec<Sym>,
-        most: usize,
-        list: &mut List,
-    ) -> io::Result<usize> {
-        list.tried = list.tried.saturating_add(1);
-        let (trial, steps) = self.tried(goal, &tokens, most)?;
-        self.steps_for_others.spend(steps);
-        match trial {
-            Trial::Reached(steps) => list.other = Some((tokens, steps)),
-            Trial::Recovered(_) => list.recovered = true,
-            Trial::Missed | Trial::Late(_) | Trial::HasError => {}
-        }
-        Ok(steps)
     }
 }
 
