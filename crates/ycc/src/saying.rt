@@ -130,6 +130,12 @@ fn put_symbol(out: &mut Output, what: What<'_>) {
                 None => out.put_bytes(name),
             }
         }
+        What::Action(number, text) => {
+            let has_value = text.windows(2).any(|part| part == b"$$".as_slice());
+            out.put("nonterminal useless in grammar: ");
+            out.put(if has_value { "@" } else { "$@" });
+            out.number(number);
+        }
         what => put_level(out, what),
     }
 }

@@ -11,6 +11,7 @@ use yforeign::groups::{Group, Head};
 use yforeign::lexeme::{Kind as Form, Lexeme};
 use yforeign::numbers::is_hexadecimal;
 use yforeign::survey::{inside, is_macro, is_text};
+use yimport::barren::{Barren, LeftOut};
 use ylalr::{END, ERROR};
 use yparts::parts::{Deed, Whose};
 use ysymbols::Sym;
@@ -80,7 +81,7 @@ impl<'a> Declared<'a> {
     /// A name that is no symbol of the grammar, so that it has no rules.
     fn find_stranger(&mut self, lexeme: &Lexeme, directive: Directive) -> Made<()> {
         let (text, at) = (self.seen.text(lexeme), lexeme.span.from);
-        if is_among(&self.met, text) {
+        if is_among(&self.met, text) || self.seen.is_left_out(text) {
             return Ok(());
         }
         intern(self.seen.alloc, &mut self.met, text)?;
@@ -294,6 +295,17 @@ impl<'a> Declared<'a> {
 }
 
 impl Seen<'_> {
+    /// Whether a nonterminal was left out with its rules.
+    fn is_left_out(self, name: &[u8]) -> bool {
+        for LeftOut { what, span } in &self.imported.left_out {
+            let text = self.source.get(span.from..span.to);
+            if *what == Barren::Nonterminal && text == Some(name) {
+                return true;
+            }
+        }
+        false
+    }
+
     /// Whether a symbol has a tag.
     fn has_tag(self, tag: &[u8]) -> bool {
         for looks in &self.parts.looks {

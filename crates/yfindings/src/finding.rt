@@ -97,6 +97,8 @@ pub enum What<'a> {
     Rules(usize),
     /// A useless nonterminal.
     Nonterminal(&'a [u8]),
+    /// That of an action within a body, by its number and its text.
+    Action(usize, &'a [u8]),
     /// A useless rule of a nonterminal that isn't.
     Rule,
     /// A rule that is never reduced.

@@ -7,6 +7,7 @@ use crate::walk::Walk;
 use std::alloc::Global;
 use yexplain::lines::is_inner;
 use yexplain::reads::{Made, body_of, left_of, set};
+use yimport::barren::{Barren, LeftOut};
 use ysymbols::{Grammar, Sym};
 
 /// Which symbols and rules sentences need.
@@ -139,6 +140,20 @@ fn find_nonterminals<'a>(
     }
     for is_needed in needed.rules.iter().skip(1) {
         rules = rules.saturating_add(usize::from(!*is_needed));
+    }
+    for LeftOut { what, span } in &seen.imported.left_out {
+        let text = seen.source.get(span.from..span.to).unwrap_or(&[]);
+        let (is_symbol, is_rule, what) = match what {
+            Barren::Nonterminal => (true, false, What::Nonterminal(text)),
+            Barren::Inside => (false, true, What::Empty),
+            Barren::Rule => (false, true, What::Rule),
+            Barren::Action(number) => (true, true, What::Action(*number, text)),
+        };
+        symbols = symbols.saturating_add(usize::from(is_symbol));
+        rules = rules.saturating_add(usize::from(is_rule));
+        if !matches!(what, What::Empty) {
+            found.push(warning(Kind::Other, span.from, what))?;
+        }
     }
     if symbols > 0 {
         found.push(about_all(Kind::Other, What::Nonterminals(symbols)))?;

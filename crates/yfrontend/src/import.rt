@@ -20,7 +20,7 @@ use yfiles::writing::put_output;
 use yforeign::directive::is_imported;
 use ygrammar::{GrammarFault, LONGEST_FILE, PlacedFault};
 use yimport::import::{Imported, import};
-use yimport::refusal::{self, Refused};
+use yimport::refusal::{self, Refusal, Refused};
 use yimport::symbols::{Ended, Expected};
 use ysymbols::Grammar;
 
@@ -182,6 +182,11 @@ fn add_refused(
     let (word, dots) = shown(source, at, refused.span.to);
     one.subject.extend_from_slice(word)?;
     one.subject.extend_from_slice(dots.as_bytes())?;
+    if let Refusal::NoSentence = refused.refusal {
+        one.say("start symbol ")?;
+        one.message.write_all(word)?;
+        one.say(" ")?;
+    }
     one.say(refused.refusal.text())?;
     Ok(told.add(one)?)
 }
@@ -349,9 +354,21 @@ fn is_foreign(bytes: &[u8], trouble: &Trouble<'_>, end: usize) -> bool {
         GrammarFault::BadLiteral { .. }
         | GrammarFault::Foreign { .. }
         | GrammarFault::Syntax { .. } => at < end,
+        GrammarFault::Unproductive { .. } => true,
         _ => false,
     };
     rest.starts_with(b"//") || is_imported(rest) || is_passed
+}
+
+/// Whether all that `yacc` says against a file is that no list of tokens can be made of a
+/// nonterminal.
+fn is_barren(trouble: &Trouble<'_>) -> bool {
+    match trouble {
+        Trouble::Grammar(refusal) => {
+            matches!(refusal.placed.fault, GrammarFault::Unproductive { .. })
+        }
+        _ => false,
+    }
 }
 
 /// What a file becomes that `yacc` refuses for this reason, where it has what only bison or byacc
@@ -414,7 +431,7 @@ pub fn open_grammar(
     } else {
         match open_bytes(alloc, source.bytes, None) {
             Ok(opened) => return Ok(Ok(Read::Plain(opened))),
-            Err(trouble) if dialect == Dialect::Seen => {
+            Err(trouble) if dialect == Dialect::Seen && !is_barren(&trouble) => {
                 let imported = import_of(alloc, told, source, &trouble)?;
                 if imported.is_ok() {
                     add_seen(alloc, told, source, &trouble)?;

@@ -111,6 +111,7 @@ pub fn add_notes(
             // as bison has it for what is changed
             one.category = Some(match note.reason {
                 Reason::MadeName | Reason::MadeSign => Category::DanglingAlias,
+                Reason::Barren => Category::Other,
                 _ => Category::Yacc,
             });
             say_how(&mut one, &imported.texts, note.how)?;

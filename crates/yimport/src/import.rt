@@ -1,6 +1,7 @@
 //! A file imported.
 
 use crate::applied::{Changed, applied};
+use crate::barren::LeftOut;
 use crate::note::Note;
 use crate::pieces::Pieces;
 use crate::refusal::{Refusal, Trouble};
@@ -37,8 +38,10 @@ pub struct Imported {
     pub numbers: Vec<Numbered>,
     /// The greatest number that the file gives a token.
     pub greatest: usize,
-    /// The lexemes of the file, up to its second mark.
+    /// The lexemes of the file, up to its second mark, but for what was left out.
     pub lexemes: Vec<Lexeme>,
+    /// What was left out, since no sentence can be made of it.
+    pub left_out: Vec<LeftOut>,
     /// How its symbols are spelled in the text.
     pub spelling: Spelling,
 }
@@ -48,7 +51,7 @@ impl Drop for Imported {
     fn drop(self) {
         let_go!(self: Imported {
             text, pieces, notes, texts, levels, shift_reduce, reduce_reduce, ended, numbers,
-            greatest, lexemes, spelling
+            greatest, lexemes, left_out, spelling
         });
     }
 }
@@ -77,12 +80,12 @@ impl Work<'_> {
 
     /// Takes in the file, which has these lexemes, and makes the changes, unless there was a
     /// trouble.
-    fn run(&mut self, lexemes: &Lexemes) -> Result<(), Trouble> {
+    fn run(&mut self, lexemes: &mut Lexemes) -> Result<(), Trouble> {
         for remark in &lexemes.remarks {
             self.edits.close_remark(*remark);
         }
+        self.leave_out(lexemes)?;
         let groups = groups_of(self.alloc, self.source, &lexemes.all)?;
-        self.survey.fill(self.alloc, self.source, &groups)?;
         for group in &groups {
             self.import_group(group);
         }
@@ -113,6 +116,7 @@ impl Work<'_> {
             numbers: mem::replace(&mut self.numbers, Vec::new(alloc)),
             greatest: self.greatest,
             lexemes,
+            left_out: mem::replace(&mut self.left_out, Vec::new(alloc)),
             spelling: Spelling::new(survey, made),
         }
     }
@@ -122,7 +126,7 @@ impl Work<'_> {
 pub fn import(alloc: Global, source: &[u8]) -> Result<Imported, Trouble> {
     let mut lexemes = lexemes_of(alloc, source)?;
     let mut work = Work::new(alloc, source);
-    work.run(&lexemes)?;
+    work.run(&mut lexemes)?;
     let all = mem::replace(&mut lexemes.all, Vec::new(alloc));
     Ok(work.imported(all))
 }

@@ -2,6 +2,7 @@
 #![tactic(auto)]
 
 mod applied;
+pub mod barren;
 mod bodies;
 mod declarations;
 mod edits;

@@ -7,6 +7,8 @@ use yforeign::lexeme::Span;
 pub enum Effect {
     /// It can't.
     None,
+    /// It can't, though rules are left out.
+    Rules,
     /// Conflicts can change.
     Conflicts,
     /// The language can change.
@@ -19,7 +21,7 @@ impl Effect {
     pub fn text(self, conflicts_stay: bool) -> &'static str {
         match self {
             Effect::None if conflicts_stay => "language and conflicts stay",
-            Effect::None => "the language stays",
+            Effect::None | Effect::Rules => "the language stays",
             Effect::Conflicts => "conflicts can change",
             Effect::Language => "the language can change",
         }
@@ -62,6 +64,7 @@ pub enum Reason {
     PrecInside,
     Dash,
     ErrorName,
+    Barren,
 }
 
 /// How something is changed.
@@ -127,6 +130,7 @@ impl Reason {
             Reason::PrecInside => "%prec of yacc stands at the end of a body",
             Reason::Dash => "names of yacc have no dashes",
             Reason::ErrorName => "it's yacc's name for this",
+            Reason::Barren => "no list of tokens can be made of it",
         }
     }
 
@@ -135,6 +139,7 @@ impl Reason {
         match self {
             Reason::TablesAsked => Effect::Conflicts,
             Reason::MadeSign => Effect::Language,
+            Reason::Barren => Effect::Rules,
             _ => Effect::None,
         }
     }

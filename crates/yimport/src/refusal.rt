@@ -23,6 +23,8 @@ pub enum Refusal {
     TokenNonterminal,
     NumberTooLarge,
     NumberTaken,
+    /// The start symbol derives no sentence.
+    NoSentence,
 }
 
 /// What is refused, and where it stands: a part without bytes, where it is no lexeme.
@@ -74,6 +76,7 @@ impl Refusal {
             Refusal::NumberTooLarge => "numbers of tokens end at 2,147,483,646",
             Refusal::NumberTaken => "this token has another number, or another token has this one",
             Refusal::TokenNonterminal => "it is listed as a token too",
+            Refusal::NoSentence => "does not derive any sentence",
             Refusal::NameTaken => "yacc's names have no dashes, and the name without them is taken",
         }
     }

@@ -1,6 +1,7 @@
 //! Symbols as `yacc` spells them.
 
 use crate::applied::Changed;
+use crate::barren::LeftOut;
 use crate::edits::Edits;
 use crate::note::Reason;
 use crate::refusal::{Refusal, Trouble};
@@ -77,6 +78,8 @@ pub struct Work<'a> {
     pub has_start: bool,
     /// The file with its changes.
     pub changed: Changed,
+    /// What was left out.
+    pub left_out: Vec<LeftOut>,
 }
 
 impl Drop for Work<'_> {
@@ -84,7 +87,8 @@ impl Drop for Work<'_> {
     fn drop(self) {
         let_go!(self: Work {
             alloc, source, survey, edits, made, last_made, numbers, numbered, greatest, renamed,
-            levels, shift_reduce, reduce_reduce, bodies, ended, left, has_start, changed
+            levels, shift_reduce, reduce_reduce, bodies, ended, left, has_start, changed,
+            left_out
         });
     }
 }
@@ -111,6 +115,7 @@ impl<'a> Work<'a> {
             left: None,
             has_start: false,
             changed: Changed::new(alloc),
+            left_out: Vec::new(alloc),
         }
     }
 

@@ -1,7 +1,7 @@
 //! Bodies of a foreign file: the names of their values, the actions and the tags of these.
 
 use crate::gather::Gather;
-use crate::parts::Named;
+use crate::parts::{By, Named};
 use yexplain::reads::Made;
 use yforeign::directive::is_symbol;
 use yforeign::lexeme::{Kind, Lexeme};
@@ -41,10 +41,12 @@ impl Gather<'_, '_> {
                     self.action_tags.push(tag)?;
                     tag = None;
                 }
-                kind if is_symbol(kind) && !is_prec => {
-                    place = place.saturating_add(1);
-                    self.parts.names.push(Named { name, place })?;
-                    self.see_symbol(lexeme, None)?;
+                kind if is_symbol(kind) => {
+                    self.see_symbol(lexeme, None, By::Name)?;
+                    if !is_prec {
+                        place = place.saturating_add(1);
+                        self.parts.names.push(Named { name, place })?;
+                    }
                 }
                 _ => {}
             }

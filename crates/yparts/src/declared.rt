@@ -4,7 +4,7 @@ use crate::bodies::inner;
 use crate::gather::Gather;
 use crate::options::{Errors, Header, Purity};
 use crate::params::param_at;
-use crate::parts::{Block, Care, Deed, Defined, Numbered, Piece, Taker, Target, Whose};
+use crate::parts::{Block, By, Care, Deed, Defined, Mention, Numbered, Piece, Taker, Target, Whose};
 use crate::refusal::{Refusal, Trouble};
 use crate::versions::required;
 use crate::words::{Word, target_of, word_of};
@@ -135,6 +135,10 @@ impl<'a> Gather<'a, '_> {
         };
         for lexeme in rest {
             if let Some(whose) = self.whose(lexeme)? {
+                if let Whose::Symbol(symbol) = whose {
+                    let by = By::Name;
+                    self.parts.mentioned.push(Mention { symbol, by })?;
+                }
                 for care in &self.parts.cares {
                     if care.deed == deed && care.whose == whose {
                         self.second = self.second.or(Some(piece.at));
@@ -237,8 +241,9 @@ impl<'a> Gather<'a, '_> {
         Ok(())
     }
 
-    /// Takes in a list of symbols: each has the tag before it and the number after it.
-    pub fn take_list(&mut self, rest: &[Lexeme]) -> Made<()> {
+    /// Takes in a list of symbols that it names so: each has the tag before it and the number after
+    /// it.
+    pub fn take_list(&mut self, rest: &[Lexeme], named: By) -> Made<()> {
         let mut tag = None;
         let mut token = None;
         for (at, lexeme) in rest.iter().enumerate() {
@@ -254,7 +259,7 @@ impl<'a> Gather<'a, '_> {
                     self.parts.numbers.push(Numbered { token, number })?;
                 }
             } else if is_symbol(lexeme.kind) && !is_macro(rest, at) {
-                token = self.see_symbol(lexeme, tag)?;
+                token = self.see_symbol(lexeme, tag, named)?;
             }
         }
         Ok(())

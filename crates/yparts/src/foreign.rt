@@ -1,7 +1,7 @@
 //! The parts of a file of byacc or bison.
 
 use crate::gather::Gather;
-use crate::parts::{Parts, Piece, Target};
+use crate::parts::{By, Parts, Piece, Target};
 use crate::refusal::{Refusal, Trouble};
 use std::alloc::Global;
 use std::mem;
@@ -26,8 +26,9 @@ impl<'a> Gather<'a, '_> {
         let word = word.text(self.source);
         self.see_word(word);
         match directive {
-            Directive::Type | Directive::Nterm => self.take_list(rest)?,
-            directive if directive.lists_tokens() => self.take_list(rest)?,
+            Directive::Type | Directive::Nterm => self.take_list(rest, By::Name)?,
+            directive if directive.names_tokens() => self.take_list(rest, By::Token)?,
+            directive if directive.is_level() => self.take_list(rest, By::Name)?,
             Directive::Union => self.take_union(rest)?,
             _ => self.take_aside(word, rest)?,
         }

@@ -1,12 +1,13 @@
 //! The parts of a foreign file while they are gathered.
 
-use crate::parts::{Defined, Parts, Piece};
+use crate::parts::{By, Defined, Mention, Parts, Piece};
 use crate::words::is_only_bison;
 use std::alloc::Global;
 use yexplain::reads::Made;
 use yforeign::directive::is_word;
 use yforeign::lexeme::{Kind, Lexeme};
 use yforeign::numbers::is_hexadecimal;
+use yforeign::survey::is_text;
 use yimport::import::Imported;
 use ysymbols::{Grammar, Sym, let_go};
 
@@ -83,13 +84,19 @@ impl<'a, 'b> Gather<'a, 'b> {
     }
 
     /// Notes what a file says of a symbol by naming it below a tag or without one: of the end that
-    /// it is a name of it. Gives the symbol.
-    pub fn see_symbol(&mut self, lexeme: &Lexeme, tag: Option<&'a [u8]>) -> Made<Option<Sym>> {
+    /// it is a name of it. Names of tokens in their lists are mentioned so. Gives the symbol.
+    pub fn see_symbol(
+        &mut self,
+        lexeme: &Lexeme,
+        tag: Option<&'a [u8]>,
+        named: By,
+    ) -> Made<Option<Sym>> {
         let text = lexeme.text(self.source);
         let Some(symbol) = self.symbol(lexeme)? else {
             return Ok(None);
         };
-        self.parts.mentioned.push(symbol)?;
+        let by = if is_text(lexeme.kind) { By::Text } else { named };
+        self.parts.mentioned.push(Mention { symbol, by })?;
         if symbol == 0 && lexeme.kind == Kind::Name {
             let mut is_new = true;
             for end in &self.parts.ends {

@@ -1,6 +1,6 @@
 //! The parts of a file that `yacc` reads, by its source map.
 
-use crate::parts::{Block, Named, Numbered, Parts, Piece, Target};
+use crate::parts::{Block, By, Mention, Named, Numbered, Parts, Piece, Target};
 use std::alloc::Global;
 use std::mem;
 use yexplain::lines::{Spots, name_in, symbol_of};
@@ -93,16 +93,17 @@ impl<'a> Gather<'a, '_> {
             (Role::Union, Lexeme::Braced(_)) => self.take_text(Target::Union, at, end)?,
             (Role::Word, _) => self.tag = None,
             (Role::Tag, _) => self.tag = name_in(lexeme),
-            (Role::Declared | Role::Levelled | Role::Typed, _) => {
+            (role @ (Role::Declared | Role::Levelled | Role::Typed), _) => {
                 if let Some(symbol) = symbol_of(self.grammar, lexeme) {
-                    self.parts.mentioned.push(symbol)?;
+                    let by = if role == Role::Declared { By::Token } else { By::Name };
+                    self.parts.mentioned.push(Mention { symbol, by })?;
                     if let Some(tag) = self.tag {
                         self.parts.give_tag(symbol, tag);
                     }
                 }
             }
             (Role::Digits, Lexeme::Number(digits)) => {
-                if let Some(token) = self.parts.mentioned.last().copied() {
+                if let Some(Mention { symbol: token, .. }) = self.parts.mentioned.last().copied() {
                     let number = number_of(digits);
                     self.parts.numbers.push(Numbered { token, number })?;
                 }

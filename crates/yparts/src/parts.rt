@@ -140,6 +140,26 @@ pub struct Numbered {
     pub number: usize,
 }
 
+/// How a file mentions a symbol.
+#[derive(Clone, Copy, Drop, PartialEq, Eq)]
+pub enum By {
+    /// By its name, in a list of tokens that have names.
+    Token,
+    /// By its name, elsewhere.
+    Name,
+    /// By a string that stands for it.
+    Text,
+}
+
+/// A symbol that a file mentions.
+#[derive(Clone, Copy, Drop)]
+pub struct Mention {
+    /// The symbol.
+    pub symbol: Sym,
+    /// How it is mentioned.
+    pub by: By,
+}
+
 /// A variable that the file defines.
 #[derive(Clone, Copy)]
 pub struct Defined<'a> {
@@ -173,7 +193,7 @@ pub struct Parts<'a> {
     /// The numbers that the file gives tokens.
     pub numbers: Vec<Numbered>,
     /// The symbols in the order in which the file mentions them, each as often as it does.
-    pub mentioned: Vec<Sym>,
+    pub mentioned: Vec<Mention>,
     /// What stands after the second mark.
     pub tail: Option<Piece<'a>>,
     /// The variables that the file defines.

@@ -104,17 +104,12 @@ impl<'a> Skeleton<'a> {
     /// Writes the tokens that have names in C: with those that bison has beside them, but for what
     /// the file names by itself.
     fn put_all_tokens(&self, out: &mut Output, mut frame: Frame) {
-        let ends = &self.parts.ends;
         if self.style.is_bison() {
-            let mut names_end = false;
-            for end in ends {
-                names_end = names_end || *end == b"YYEOF".as_slice();
-            }
             let names_undefined = self.grammar.find(b"YYUNDEF").is_some();
             let undefined = i64::try_from(self.numbering.undefined).unwrap_or(0);
             for (name, number, is_named) in [
                 ("EMPTY", -2, false),
-                ("EOF", 0, names_end),
+                ("EOF", 0, !self.parts.ends.is_empty()),
                 ("error", i64::from(self.error_number()), false),
                 ("UNDEF", undefined, names_undefined),
             ] {
@@ -124,7 +119,7 @@ impl<'a> Skeleton<'a> {
                 }
             }
         }
-        for end in ends {
+        for end in &self.parts.ends {
             self.put_token(out, &mut frame, (b"", *end), 0);
         }
         for token in 2..token_count(self.grammar) {

@@ -91,6 +91,11 @@ yycan_come (const yystate_number *yyssp, int yytoken)
 
 /// Which tokens could come.
 pub const EXPECTED: &str = r##"
+/* The tokens in the order in which they are listed. */
+#ifndef YYLISTED
+# define YYLISTED(n) (n)
+#endif
+
 @if rows
 /* Whether a state that an error is found in has a number of its own for a token, or reduces at it
    by a rule that is not its default one: these are the tokens that bison lists. */
@@ -152,7 +157,7 @@ static int
 yyexpected (const yystate_number *yyssp, int yywrong, int *yytokens, int yymost)
 {
   int yycount = 0;
-  int yytoken;
+  int yyn;
 @if rows
   int yystate = *yyssp;
   (void) yywrong;
@@ -165,25 +170,27 @@ yyexpected (const yystate_number *yyssp, int yywrong, int *yytokens, int yymost)
   (void) yywrong;
 @end
 @end
-  for (yytoken = 0; yytoken < YYNTOKENS; ++yytoken)
+  for (yyn = 0; yyn < YYNTOKENS; ++yyn)
+    {
+      int yytoken = YYLISTED (yyn);
 @if rows
-    if (yytoken != YYERRTOKEN && yyhas (yystate, yytoken))
+      if (yytoken == YYERRTOKEN || !yyhas (yystate, yytoken))
 @else
 @if lists
-    if (yytoken != YYERRTOKEN && yyhas (yystate, yytoken))
+      if (yytoken == YYERRTOKEN || !yyhas (yystate, yytoken))
 @else
-    if (yytoken != YYERRTOKEN && yycan_come (yyssp, yytoken))
+      if (yytoken == YYERRTOKEN || !yycan_come (yyssp, yytoken))
 @end
 @end
-      {
-        if (yytokens)
-          {
-            if (yycount == yymost)
-              return 0;
-            yytokens[yycount] = yytoken;
-          }
-        ++yycount;
-      }
+        continue;
+      if (yytokens)
+        {
+          if (yycount == yymost)
+            return 0;
+          yytokens[yycount] = yytoken;
+        }
+      ++yycount;
+    }
   return yycount;
 }
 "##;

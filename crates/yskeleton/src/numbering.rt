@@ -4,10 +4,10 @@
 use crate::arrays::put_array;
 use std::alloc::Global;
 use ycode::Code;
-use yexplain::reads::{Made, name_of};
+use yexplain::reads::{Made, name_of, set};
 use yfiles::output::Output;
 use ylalr::{ERROR, token_count};
-use yparts::parts::Parts;
+use yparts::parts::{By, Parts};
 use ysymbols::{Grammar, Sym, let_go};
 
 /// The most that an array of tokens by their numbers goes up to.
@@ -35,6 +35,10 @@ pub struct Numbering {
     pub above: Vec<(usize, Sym)>,
     /// Whether the array is another one than that of the grammar.
     pub is_changed: bool,
+    /// The tokens in the order in which bison numbers them.
+    pub order: Vec<Sym>,
+    /// Whether that is another one than that of the grammar.
+    pub is_reordered: bool,
 }
 
 /// The number that a grammar gives a token.
@@ -126,7 +130,10 @@ fn own_numbers(alloc: Global, grammar: &Grammar, parts: &Parts<'_>) -> Made<Vec<
 /// in which the file mentions them; `error` comes last, with one above all that the file gives.
 fn fill_by_byacc(alloc: Global, numbers: &mut Vec<Option<usize>>, parts: &Parts<'_>) -> Made<()> {
     let mut free = Free::beside(alloc, numbers)?;
-    let mut order = Vec::from_slice(alloc, &parts.mentioned)?;
+    let mut order = Vec::new(alloc);
+    for mention in &parts.mentioned {
+        order.push(mention.symbol)?;
+    }
     for token in 0..numbers.len() {
         order.push(token)?;
     }
@@ -150,9 +157,39 @@ fn fill_by_byacc(alloc: Global, numbers: &mut Vec<Option<usize>>, parts: &Parts<
     Ok(())
 }
 
-/// Gives numbers to the tokens that have none as bison does, above all others in the order of the
-/// tokens, of which what is no token is the third. Gives the number of that.
-fn fill_by_bison(numbers: &mut Vec<Option<usize>>, grammar: &Grammar) -> usize {
+/// The tokens in the order of bison: after its own each where `%token` lists it first, or a string
+/// that stands for it is before that; one that no `%token` lists where it is mentioned first.
+fn order_of(alloc: Global, grammar: &Grammar, parts: &Parts<'_>) -> Made<Vec<Sym>> {
+    let count = token_count(grammar);
+    let mut is_listed = vec![in alloc; false; count]?;
+    for mention in &parts.mentioned {
+        if mention.by == By::Token {
+            set(&mut is_listed, mention.symbol, true);
+        }
+    }
+    let mut all = Vec::from_slice(alloc, &[0, ERROR])?;
+    all.push(grammar.find(UNDEFINED).unwrap_or(0))?;
+    for mention in &parts.mentioned {
+        let waits = mention.by == By::Name && is_listed.get(mention.symbol) == Some(&true);
+        all.push(if waits { 0 } else { mention.symbol })?;
+    }
+    for token in 0..count {
+        all.push(token)?;
+    }
+    let mut is_placed = vec![in alloc; false; count]?;
+    let mut order = Vec::with_capacity(alloc, count)?;
+    for token in &all {
+        if is_placed.get(*token) == Some(&false) {
+            set(&mut is_placed, *token, true);
+            order.push(*token)?;
+        }
+    }
+    Ok(order)
+}
+
+/// Gives numbers to the tokens that have none as bison does, above all others in their order, of
+/// which what is no token is the third. Gives the number of that.
+fn fill_by_bison(numbers: &mut Vec<Option<usize>>, grammar: &Grammar, order: &[Sym]) -> usize {
     let mut greatest = ERROR_NUMBER;
     for number in numbers.iter() {
         greatest = greatest.max(number.unwrap_or(0));
@@ -171,13 +208,13 @@ fn fill_by_bison(numbers: &mut Vec<Option<usize>>, grammar: &Grammar) -> usize {
         greatest = greatest.saturating_add(1);
     }
     let undefined = undefined.unwrap_or(greatest);
-    for (token, number) in numbers.iter_mut().enumerate() {
-        if number.is_some() {
+    for token in order {
+        let Some(number) = numbers.get_mut(*token) else {
             continue;
-        }
-        if named == Some(token) {
+        };
+        if number.is_none() && named == Some(*token) {
             *number = Some(undefined);
-        } else {
+        } else if number.is_none() {
             greatest = greatest.saturating_add(1);
             *number = Some(greatest);
         }
@@ -196,16 +233,18 @@ impl Numbering {
         is_bison: bool,
     ) -> Made<Numbering> {
         let mut numbers = own_numbers(alloc, grammar, parts)?;
+        let order = order_of(alloc, grammar, parts)?;
         let mut undefined = NO_TOKEN;
         if is_bison {
-            undefined = fill_by_bison(&mut numbers, grammar);
+            undefined = fill_by_bison(&mut numbers, grammar, &order);
         } else {
             fill_by_byacc(alloc, &mut numbers, parts)?;
         }
-        let mut is_changed = false;
+        let (mut is_changed, mut is_reordered) = (false, false);
         for (token, number) in numbers.iter().enumerate() {
             let own = number_of(grammar, token).map(|number| number as usize);
             is_changed = is_changed || *number != own;
+            is_reordered = is_reordered || order.get(token) != Some(&token);
         }
         let mut numbering = Numbering {
             numbers,
@@ -213,6 +252,8 @@ impl Numbering {
             array: Vec::from_slice(alloc, code.numbers.as_slice())?,
             above: Vec::new(alloc),
             is_changed,
+            order,
+            is_reordered,
         };
         if is_changed {
             numbering.place_all(alloc, code.tokens)?;

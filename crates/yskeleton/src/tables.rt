@@ -47,7 +47,7 @@ impl Skeleton<'_> {
     fn put_item(&self, out: &mut Output, symbol: Sym, spelled: Spelled) {
         let label = match self.parts.looks_of(symbol).label {
             Some([b'_', b'(', text @ .., b')']) => Some(text.trim_ascii()),
-            None if symbol == 0 && self.style.is_bison() => Some(b"\"end of file\"".as_slice()),
+            None if symbol == 0 && self.style.is_bison() => Some(self.end_label()),
             label => label,
         };
         out.put("  \"");
@@ -59,6 +59,16 @@ impl Skeleton<'_> {
             (None, _) => put_string(out, name_of(self.grammar, symbol), Escaped::Quotes),
         }
         out.put("\",\n");
+    }
+
+    /// What bison calls an end for which the file has no string: its name, if it was given there.
+    fn end_label(&self) -> &[u8] {
+        for given in &self.parts.numbers {
+            if given.token == 0 {
+                return self.parts.ends.first().copied().unwrap_or(b"$end");
+            }
+        }
+        b"\"end of file\""
     }
 
     /// Writes the array of what symbols are called: tokens, what is no token, and nonterminals.
@@ -186,11 +196,6 @@ impl Skeleton<'_> {
         out.put_pieces(&[b"\ntypedef enum\n{\n  ", prefix, b"YYEMPTY = -2,\n"]);
         self.put_kind(out, b"YYEOF", 0);
         self.put_kind(out, b"YYerror", ERROR);
-        for end in &self.parts.ends {
-            if *end != b"YYEOF".as_slice() {
-                self.put_kind(out, end, 0);
-            }
-        }
         for symbol in 2..self.grammar.symbols() {
             if !self.parts.looks_of(symbol).is_made {
                 let kind = self.kind_of(symbol);
@@ -279,6 +284,10 @@ impl Skeleton<'_> {
             put_array(out, name, numbers.as_slice(), numbers.greatest());
         }
         self.put_leading(alloc, out)?;
+        if self.style.is_bison() && self.style.asks() && numbering.is_reordered {
+            put_array(out, "yylisted", &numbering.order, code.tokens);
+            out.put("#define YYLISTED(n) yylisted[n]\n");
+        }
         if self.style.lists() {
             put_array(out, "yydefault", defaults, code.rules);
         }
