@@ -100,7 +100,9 @@ fn write_all(rt: &HostRuntime, given: Given<'_>, texts: &[Text<'_>]) -> Result<(
     for text in texts {
         outputs.push(Some(text.path))?;
     }
-    let inputs = [given.grammar, given.messages.unwrap_or(given.grammar)];
+    let grammar = given.grammar;
+    let (messages, spec) = (given.messages.unwrap_or(grammar), given.spec.unwrap_or(grammar));
+    let inputs = [grammar, messages, spec];
     if let Some(clash) = clash_of(rt, &outputs, &inputs)? {
         let mut out = Output::new(rt.alloc());
         out.put("ycc: ");
@@ -143,7 +145,7 @@ pub fn write_files(
     }
     let style = style_of(alloc, parts, wishes, given.prefix)?;
     let code = code_of(alloc, tables, wishes.policy)?;
-    let speech = speech_of(rt, given.messages, tables, &style)?;
+    let speech = speech_of(rt, given, tables, &style)?;
     let grammar = tables.automaton().grammar();
     let numbering = Numbering::of(alloc, grammar, parts, &code, is_bison)?;
     let skeleton = Skeleton {

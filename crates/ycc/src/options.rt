@@ -44,6 +44,7 @@ pub enum Ask {
     Output,
     NamePrefix,
     Messages,
+    Spec,
     Define,
     Force,
     Table,
@@ -88,7 +89,7 @@ const THINGS_PERHAPS: Has = Has::Perhaps("THINGS");
 const VARIABLE: Has = Has::Value("NAME=VALUE");
 
 /// How many options there are.
-const COUNT: usize = 44;
+const COUNT: usize = 45;
 
 /// The options, in the order of their help.
 pub const OPTIONS: [Known; COUNT] = [
@@ -331,6 +332,14 @@ pub const OPTIONS: [Known; COUNT] = [
         FILE,
         Ask::Messages,
         "The parser says the messages of this file for its errors",
+    ),
+    (
+        None,
+        "lex",
+        Whose::All,
+        Has::Value("SPEC"),
+        Ask::Spec,
+        "Their inputs are texts, which this file cuts into tokens",
     ),
     (
         None,

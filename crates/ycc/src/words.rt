@@ -58,6 +58,8 @@ pub struct Given<'a> {
     pub report: Option<&'a str>,
     /// The file of messages for errors, where there are some.
     pub messages: Option<&'a str>,
+    /// The SPEC that cuts their inputs, where these are texts.
+    pub spec: Option<&'a str>,
     /// Which warnings are told.
     pub kinds: Kinds,
 }
@@ -85,6 +87,7 @@ impl Given<'_> {
             dry: false,
             report: None,
             messages: None,
+            spec: None,
             kinds: Kinds::new(),
         }
     }
