@@ -48,6 +48,8 @@ pub enum Ask {
     Define,
     Force,
     Table,
+    Graph,
+    OldGraph,
     Language,
     Skeleton,
     Kinds,
@@ -63,8 +65,6 @@ pub type Known = (Option<char>, &'static str, Whose, Has, Ask, &'static str);
 
 /// Why an output isn't there.
 const NO_OUTPUT: Ask = Ask::Refused("ycc has no such output");
-
-const NO_GRAPH: Ask = Ask::Refused("ycc draws no graph");
 
 const NO_MAP: Ask = Ask::Refused("paths stay what they are in #line");
 
@@ -89,7 +89,7 @@ const THINGS_PERHAPS: Has = Has::Perhaps("THINGS");
 const VARIABLE: Has = Has::Value("NAME=VALUE");
 
 /// How many options there are.
-const COUNT: usize = 45;
+const COUNT: usize = 47;
 
 /// The options, in the order of their help.
 pub const OPTIONS: [Known; COUNT] = [
@@ -212,6 +212,30 @@ pub const OPTIONS: [Known; COUNT] = [
         FILE_PERHAPS,
         Ask::Table,
         "Writes the table of yacc too, to this file",
+    ),
+    (
+        None,
+        "graph",
+        Whose::All,
+        FILE_PERHAPS,
+        Ask::Graph,
+        "Writes the automaton as a graph in DOT too, to this file",
+    ),
+    (
+        Some('g'),
+        "",
+        Whose::Bison,
+        FILE_PERHAPS,
+        Ask::Graph,
+        "Writes the automaton as a graph in DOT too, to this file",
+    ),
+    (
+        Some('g'),
+        "",
+        Whose::Byacc,
+        NOTHING,
+        Ask::OldGraph,
+        "Writes the automaton as a graph in DOT too, laid out as byacc's",
     ),
     (
         Some('y'),
@@ -389,7 +413,6 @@ pub const OPTIONS: [Known; COUNT] = [
         Ask::Nothing,
         "Changes nothing: strings get no names in C",
     ),
-    (Some('g'), "graph", Whose::All, FILE_PERHAPS, NO_GRAPH, ""),
     (Some('x'), "xml", Whose::All, FILE_PERHAPS, NO_OUTPUT, ""),
     (None, "html", Whose::All, FILE_PERHAPS, NO_OUTPUT, ""),
     (

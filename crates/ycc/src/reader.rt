@@ -94,6 +94,8 @@ fn wish<'a>(given: &mut Given<'a>, ask: Ask, value: &'a str) -> bool {
         Ask::Messages => given.messages = Some(value),
         Ask::Spec => given.spec = Some(value),
         Ask::Table => given.table = Some(value),
+        Ask::Graph => given.graph = Some(value),
+        Ask::OldGraph => given.old_graph = true,
         _ => return false,
     }
     true

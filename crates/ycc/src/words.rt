@@ -30,6 +30,10 @@ pub struct Given<'a> {
     pub header: Option<&'a str>,
     /// The file of the tables, where they are wanted; its name may be empty.
     pub table: Option<&'a str>,
+    /// The file of the graph as of bison, where it is wanted; its name may be empty.
+    pub graph: Option<&'a str>,
+    /// Whether the graph as of byacc is wanted.
+    pub old_graph: bool,
     /// What names in C begin with, where that is given.
     pub prefix: Option<&'a str>,
     /// Whether a header is wanted.
@@ -73,6 +77,8 @@ impl Given<'_> {
             parser: None,
             header: None,
             table: None,
+            graph: None,
+            old_graph: false,
             prefix: None,
             define: false,
             no_lines: false,
