@@ -1,6 +1,7 @@
 //! The files that are made of a grammar file.
 
 use crate::ending::{Ending, File, outside, say, tell};
+use crate::graph::Graph;
 use crate::messages::speech_of;
 use crate::names::{Names, names_of};
 use crate::policy::policy_of;
@@ -93,6 +94,28 @@ fn texts_of<'a>(
     Ok(texts)
 }
 
+/// Adds the graphs that are wanted of a grammar file to texts.
+fn add_graphs<'a>(
+    given: Given<'_>,
+    mut graph: Graph<'_>,
+    file: &File,
+    names: &'a Names,
+    texts: &mut Vec<Text<'a>>,
+) -> Result<(), Ending> {
+    if given.graph.is_some() {
+        let path = names.graph.as_str();
+        let bytes = graph.text(&file.path)?;
+        texts.push(Text { path, bytes })?;
+    }
+    if given.old_graph {
+        graph.is_bison = false;
+        let path = names.old_graph.as_str();
+        let bytes = graph.old_text(&names.stem)?;
+        texts.push(Text { path, bytes })?;
+    }
+    Ok(())
+}
+
 /// Writes texts to their files, unless one would be written over another that is read or written:
 /// then that is said.
 fn write_all(rt: &HostRuntime, given: Given<'_>, texts: &[Text<'_>]) -> Result<(), Ending> {
@@ -100,7 +123,9 @@ fn write_all(rt: &HostRuntime, given: Given<'_>, texts: &[Text<'_>]) -> Result<(
     for text in texts {
         outputs.push(Some(text.path))?;
     }
-    let inputs = [given.grammar, given.messages.unwrap_or(given.grammar)];
+    let grammar = given.grammar;
+    let (messages, spec) = (given.messages.unwrap_or(grammar), given.spec.unwrap_or(grammar));
+    let inputs = [grammar, messages, spec];
     if let Some(clash) = clash_of(rt, &outputs, &inputs)? {
         let mut out = Output::new(rt.alloc());
         out.put("ycc: ");
@@ -143,7 +168,7 @@ pub fn write_files(
     }
     let style = style_of(alloc, parts, wishes, given.prefix)?;
     let code = code_of(alloc, tables, wishes.policy)?;
-    let speech = speech_of(rt, given.messages, tables, &style)?;
+    let speech = speech_of(rt, given, tables, &style)?;
     let grammar = tables.automaton().grammar();
     let numbering = Numbering::of(alloc, grammar, parts, &code, is_bison)?;
     let skeleton = Skeleton {
@@ -157,7 +182,15 @@ pub fn write_files(
         speech: speech.as_ref(),
     };
     refuse_misuses(rt, file, &skeleton)?;
-    let texts = texts_of(rt, given, file, tables, skeleton, &names)?;
+    let mut texts = texts_of(rt, given, file, tables, skeleton, &names)?;
+    let graph = Graph {
+        alloc,
+        tables,
+        parts,
+        code: &code,
+        is_bison: true,
+    };
+    add_graphs(given, graph, file, &names, &mut texts)?;
     let is_told = tell_found(rt, given.kinds, file, read, is_bison)?;
     if !given.dry {
         write_all(rt, given, &texts)?;

@@ -1,12 +1,12 @@
 //! Messages for errors, as a file of messages has them for `ydebug errors`.
 
-use crate::ending::{Ending, outside, tell};
+use crate::ending::{Ending, tell};
+use crate::words::Given;
 use std::alloc::Global;
 use yexplain::reads::Made;
 use yfiles::diagnostic::Diagnostics;
 use yfiles::reading::{LONGEST_INPUT, Limited};
 use yfiles::steady::Steady;
-use ymessages::inputs::Inputs;
 use ymessages::messages::Messages;
 use ymessages::slots::Slot;
 use yskeleton::{Speech, Spoken, Style};
@@ -32,37 +32,35 @@ fn spoken(alloc: Global, tables: &Tables, messages: &Messages) -> Made<Speech> {
     Ok(speech)
 }
 
-/// The messages of a file. Where it can't be read or is too long, or something is wrong with it,
-/// that is said.
-fn read_speech(rt: &HostRuntime, path: &str, tables: &Tables) -> Result<Speech, Ending> {
+/// The messages of a file, by the SPEC that words name. Where it can't be read or is too long, or
+/// something is wrong with it, that is said.
+fn read_speech(
+    rt: &HostRuntime,
+    given: Given<'_>,
+    path: &str,
+    tables: &Tables,
+) -> Result<Speech, Ending> {
     let most = LONGEST_INPUT;
     let file = Limited { path, most };
-    let mut errors = Steady::new(rt.stderr(), true);
-    let bytes = match file.bytes(rt) {
-        Ok(Some(bytes)) => bytes,
-        Ok(None) => {
-            file.too_long(rt, false)?.put(&mut errors, "ycc")?;
-            return Err(Ending::Refused);
-        }
-        Err(error) => return Err(outside(rt, "read", path, &error)),
-    };
-    let (inputs, mut told) = (Inputs::of_tokens(tables), Diagnostics::new(rt.alloc()));
-    let messages = Messages::checked(rt.alloc(), inputs, path, bytes, &mut told)?;
-    told.put(&mut errors, "ycc")?;
+    let mut told = Diagnostics::new(rt.alloc());
+    let about = (given.grammar, tables);
+    let messages = Messages::open_with(rt, about, given.spec, file, &mut told)?;
+    told.put(&mut Steady::new(rt.stderr(), true), "ycc")?;
     match messages {
         Ok(messages) => Ok(spoken(rt.alloc(), tables, &messages)?),
-        Err(_) => Err(Ending::Refused),
+        Err(1) => Err(Ending::Refused),
+        Err(_) => Err(Ending::Outside),
     }
 }
 
 /// The messages that words ask for, where they do. A parser whose user tells of errors has none.
 pub fn speech_of(
     rt: &HostRuntime,
-    path: Option<&str>,
+    given: Given<'_>,
     tables: &Tables,
     style: &Style<'_>,
 ) -> Result<Option<Speech>, Ending> {
-    let Some(path) = path else {
+    let Some(path) = given.messages else {
         return Ok(None);
     };
     if style.is_custom() {
@@ -70,5 +68,5 @@ pub fn speech_of(
         tell(rt, &["ycc: ", path, why]);
         return Err(Ending::Refused);
     }
-    Ok(Some(read_speech(rt, path, tables)?))
+    Ok(Some(read_speech(rt, given, path, tables)?))
 }

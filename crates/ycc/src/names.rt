@@ -17,6 +17,11 @@ pub struct Names {
     pub report: String,
     /// The tables.
     pub table: String,
+    /// The graph as of bison.
+    pub graph: String,
+    /// The graph as of byacc, and what its name begins with.
+    pub old_graph: String,
+    pub stem: String,
 }
 
 /// Endings of grammar files, each with those of the parser and of its header.
@@ -61,6 +66,9 @@ fn names_by_parser(alloc: Global, path: &str) -> Made<Names> {
         header: joined(alloc, stem, header)?,
         report: joined(alloc, report, ".output")?,
         table: joined(alloc, report, TAB)?,
+        graph: joined(alloc, report, ".gv")?,
+        old_graph: joined(alloc, report, ".dot")?,
+        stem: String::from_str(alloc, report)?,
     })
 }
 
@@ -93,6 +101,9 @@ fn names_by_prefix(alloc: Global, given: Given<'_>, options: &Options<'_>) -> Ma
         header: joined(alloc, &table, endings.1)?,
         report: joined(alloc, prefix, ".output")?,
         table,
+        graph: joined(alloc, prefix, ".gv")?,
+        old_graph: joined(alloc, prefix, ".dot")?,
+        stem: String::from_str(alloc, prefix)?,
     })
 }
 
@@ -132,6 +143,10 @@ pub fn names_of(
         names.header = String::from_str(alloc, path)?;
     }
     let (report, table) = (given.report.unwrap_or(""), given.table.unwrap_or(""));
+    let graph = given.graph.unwrap_or("");
+    if !graph.is_empty() {
+        names.graph = String::from_str(alloc, graph)?;
+    }
     if !report.is_empty() {
         names.report = String::from_str(alloc, report)?;
     }

@@ -44,9 +44,12 @@ pub enum Ask {
     Output,
     NamePrefix,
     Messages,
+    Spec,
     Define,
     Force,
     Table,
+    Graph,
+    OldGraph,
     Language,
     Skeleton,
     Kinds,
@@ -62,8 +65,6 @@ pub type Known = (Option<char>, &'static str, Whose, Has, Ask, &'static str);
 
 /// Why an output isn't there.
 const NO_OUTPUT: Ask = Ask::Refused("ycc has no such output");
-
-const NO_GRAPH: Ask = Ask::Refused("ycc draws no graph");
 
 const NO_MAP: Ask = Ask::Refused("paths stay what they are in #line");
 
@@ -88,7 +89,7 @@ const THINGS_PERHAPS: Has = Has::Perhaps("THINGS");
 const VARIABLE: Has = Has::Value("NAME=VALUE");
 
 /// How many options there are.
-const COUNT: usize = 44;
+const COUNT: usize = 47;
 
 /// The options, in the order of their help.
 pub const OPTIONS: [Known; COUNT] = [
@@ -213,6 +214,30 @@ pub const OPTIONS: [Known; COUNT] = [
         "Writes the table of yacc too, to this file",
     ),
     (
+        None,
+        "graph",
+        Whose::All,
+        FILE_PERHAPS,
+        Ask::Graph,
+        "Writes the automaton as a graph in DOT too, to this file",
+    ),
+    (
+        Some('g'),
+        "",
+        Whose::Bison,
+        FILE_PERHAPS,
+        Ask::Graph,
+        "Writes the automaton as a graph in DOT too, to this file",
+    ),
+    (
+        Some('g'),
+        "",
+        Whose::Byacc,
+        NOTHING,
+        Ask::OldGraph,
+        "Writes the automaton as a graph in DOT too, laid out as byacc's",
+    ),
+    (
         Some('y'),
         "yacc fixed-output-files",
         Whose::All,
@@ -334,6 +359,14 @@ pub const OPTIONS: [Known; COUNT] = [
     ),
     (
         None,
+        "lex",
+        Whose::All,
+        Has::Value("SPEC"),
+        Ask::Spec,
+        "Their inputs are texts, which this file cuts into tokens",
+    ),
+    (
+        None,
         "bison-lists",
         Whose::All,
         NOTHING,
@@ -380,7 +413,6 @@ pub const OPTIONS: [Known; COUNT] = [
         Ask::Nothing,
         "Changes nothing: strings get no names in C",
     ),
-    (Some('g'), "graph", Whose::All, FILE_PERHAPS, NO_GRAPH, ""),
     (Some('x'), "xml", Whose::All, FILE_PERHAPS, NO_OUTPUT, ""),
     (None, "html", Whose::All, FILE_PERHAPS, NO_OUTPUT, ""),
     (

@@ -92,7 +92,10 @@ fn wish<'a>(given: &mut Given<'a>, ask: Ask, value: &'a str) -> bool {
         Ask::Output => given.parser = Some(value),
         Ask::NamePrefix => given.prefix = Some(value),
         Ask::Messages => given.messages = Some(value),
+        Ask::Spec => given.spec = Some(value),
         Ask::Table => given.table = Some(value),
+        Ask::Graph => given.graph = Some(value),
+        Ask::OldGraph => given.old_graph = true,
         _ => return false,
     }
     true

@@ -30,6 +30,10 @@ pub struct Given<'a> {
     pub header: Option<&'a str>,
     /// The file of the tables, where they are wanted; its name may be empty.
     pub table: Option<&'a str>,
+    /// The file of the graph as of bison, where it is wanted; its name may be empty.
+    pub graph: Option<&'a str>,
+    /// Whether the graph as of byacc is wanted.
+    pub old_graph: bool,
     /// What names in C begin with, where that is given.
     pub prefix: Option<&'a str>,
     /// Whether a header is wanted.
@@ -58,6 +62,8 @@ pub struct Given<'a> {
     pub report: Option<&'a str>,
     /// The file of messages for errors, where there are some.
     pub messages: Option<&'a str>,
+    /// The SPEC that cuts their inputs, where these are texts.
+    pub spec: Option<&'a str>,
     /// Which warnings are told.
     pub kinds: Kinds,
 }
@@ -71,6 +77,8 @@ impl Given<'_> {
             parser: None,
             header: None,
             table: None,
+            graph: None,
+            old_graph: false,
             prefix: None,
             define: false,
             no_lines: false,
@@ -85,6 +93,7 @@ impl Given<'_> {
             dry: false,
             report: None,
             messages: None,
+            spec: None,
             kinds: Kinds::new(),
         }
     }

@@ -25,21 +25,38 @@ pub struct Conflicts {
     pub reduces: usize,
 }
 
-/// Whether a shift is left in a cell, and how many rules: they are compared with the shift one
-/// after the other, as long as it is there.
-fn left_in(tables: &Tables, state: usize, token: Sym) -> (bool, usize) {
-    let mut has_shift = shift_of(tables, state, token).is_some();
-    let mut rules: usize = 0;
+/// What precedences leave of a cell.
+#[derive(Clone, Copy, Drop)]
+pub struct Left {
+    /// Whether a shift is left.
+    pub has_shift: bool,
+    /// How many rules are left.
+    pub rules: usize,
+    /// Whether the rule that is asked for is among them.
+    pub has_rule: bool,
+}
+
+/// What is left of a cell: its rules are compared with the shift one after the other, as long as it
+/// is there.
+pub fn left_in(tables: &Tables, state: usize, token: Sym, rule: usize) -> Left {
+    let mut left = Left {
+        has_shift: shift_of(tables, state, token).is_some(),
+        rules: 0,
+        has_rule: false,
+    };
     for candidate in candidates_of(tables, state, token) {
-        let class = if has_shift {
+        let class = if left.has_shift {
             candidate.standing.class()
         } else {
             Class::Rest
         };
-        has_shift = has_shift && matches!(class, Class::Rest | Class::Lose);
-        rules = rules.saturating_add(usize::from(matches!(class, Class::Rest | Class::Beat)));
+        left.has_shift = left.has_shift && matches!(class, Class::Rest | Class::Lose);
+        if matches!(class, Class::Rest | Class::Beat) {
+            left.rules = left.rules.saturating_add(1);
+            left.has_rule = left.has_rule || candidate.rule == rule;
+        }
     }
-    (has_shift, rules)
+    left
 }
 
 impl Walk {
@@ -50,6 +67,11 @@ impl Walk {
             self.reached.push(state)?;
         }
         Ok(())
+    }
+
+    /// Whether a parse can come to a state.
+    pub fn comes_to(&self, state: usize) -> bool {
+        self.is_reached.get(state) == Some(&true)
     }
 
     /// Looks at a state.
@@ -96,10 +118,10 @@ impl Walk {
         };
         for state in &self.reached {
             for token in 0..grammar_of(tables).symbols() {
-                let (has_shift, rules) = left_in(tables, *state, token);
-                let is_met = has_shift && rules > 0;
+                let left = left_in(tables, *state, token, 0);
+                let is_met = left.has_shift && left.rules > 0;
                 found.shifts = found.shifts.saturating_add(usize::from(is_met));
-                found.reduces = found.reduces.saturating_add(rules.saturating_sub(1));
+                found.reduces = found.reduces.saturating_add(left.rules.saturating_sub(1));
             }
         }
         found

@@ -4,6 +4,7 @@ use crate::grammars::GrammarFile;
 use std::alloc::Global;
 use std::io::{self, ErrorKind, Write};
 use std::rt::Files;
+use yexplain::lines::Lines;
 use yexplain::reads::{Made, grammar_of};
 use yexplain::text::{Escaped, Name};
 use yfaults::opening::{Opened, file_fault};
@@ -12,7 +13,8 @@ use yfiles::place::{Place, Spot};
 use yfiles::reading::Limited;
 use ylex::fault::Wrong;
 use yparse::TokenFault;
-use ysymbols::Sym;
+use ysymbols::{Grammar, Sym};
+use ytables::Tables;
 
 /// The most bytes that are shown of what nothing matches.
 const MOST_BYTES: usize = 8;
@@ -47,22 +49,31 @@ pub struct Fault {
     what: What,
 }
 
+/// The grammar of a language, its file, and where things stand in it, where that is known.
+#[derive(Clone, Copy)]
+struct About<'a> {
+    path: &'a str,
+    grammar: &'a Grammar,
+    lines: Option<&'a Lines>,
+}
+
 /// That no line of a SPEC gives a token, with its place in the grammar file.
 fn ungiven(
     alloc: Global,
     spec: &str,
-    grammar: GrammarFile<'_>,
-    opened: &Opened,
+    about: About<'_>,
     token: Sym,
 ) -> io::Result<Diagnostic> {
-    let mut mentions = opened.lines.mentions.iter();
-    let mention = mentions.find(|it| it.symbol == token);
-    let first = match mention {
-        Some(it) => it.spot,
-        None => Spot { line: 1, column: None },
-    };
-    let name = Name(grammar_of(&opened.tables), token);
-    let mut one = Diagnostic::new(alloc, Some(grammar.path), Some(first))?;
+    let mut first = None;
+    if let Some(lines) = about.lines {
+        let mut mentions = lines.mentions.iter();
+        first = Some(match mentions.find(|it| it.symbol == token) {
+            Some(it) => it.spot,
+            None => Spot { line: 1, column: None },
+        });
+    }
+    let name = Name(about.grammar, token);
+    let mut one = Diagnostic::new(alloc, Some(about.path), first)?;
     write!(
         one.message,
         "{name}: no line of {spec} gives this token; write one, or name it after %none"
@@ -150,13 +161,11 @@ impl Fault {
         Ok(one)
     }
 
-    /// What is wrong, with its place and the text there. The grammar of the language is open, and
-    /// this is its file.
+    /// What is wrong, with its place and the text there.
     fn diagnostic<F: Files + AllocGlobal>(
         &self,
         rt: &F,
-        file: GrammarFile<'_>,
-        opened: &Opened,
+        about: About<'_>,
     ) -> io::Result<Diagnostic> {
         let (alloc, path, most) = (rt.alloc(), self.path.as_str(), self.most);
         match self.what {
@@ -168,14 +177,31 @@ impl Fault {
             What::Long => Limited { path, most }.too_long(rt, true),
             What::LongSpec => Limited { path, most }.too_long(rt, false),
             What::Tokens(fault) => {
-                let (grammar, source) = (grammar_of(&opened.tables), (path, self.bytes.as_slice()));
-                file_fault(alloc, grammar, source, fault)
+                file_fault(alloc, about.grammar, (path, &self.bytes), fault)
             }
             What::Unmatched(at) => unmatched(alloc, self.place(at)),
             What::TooMany(at) => too_many(alloc, self.place(at)),
             What::Spec(at, wrong) => self.line_fault(alloc, at, wrong),
-            What::Ungiven(token) => ungiven(alloc, path, file, opened, token),
+            What::Ungiven(token) => ungiven(alloc, path, about, token),
         }
+    }
+
+    /// Says what is wrong, and gives the exit status. The grammar of the language has these tables,
+    /// and this is the path of its file.
+    pub fn tell_of<F: Files + AllocGlobal>(
+        &self,
+        rt: &F,
+        told: &mut Diagnostics,
+        path: &str,
+        tables: &Tables,
+    ) -> io::Result<u8> {
+        let about = About {
+            path,
+            grammar: grammar_of(tables),
+            lines: None,
+        };
+        told.add(self.diagnostic(rt, about)?)?;
+        Ok(self.status())
     }
 
     /// Says what is wrong, and gives the exit status. The grammar of the language is open, and this
@@ -187,7 +213,12 @@ impl Fault {
         file: GrammarFile<'_>,
         opened: &Opened,
     ) -> io::Result<u8> {
-        told.add(self.diagnostic(rt, file, opened)?)?;
+        let about = About {
+            path: file.path,
+            grammar: grammar_of(&opened.tables),
+            lines: Some(&opened.lines),
+        };
+        told.add(self.diagnostic(rt, about)?)?;
         Ok(self.status())
     }
 

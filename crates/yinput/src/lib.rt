@@ -15,7 +15,7 @@ pub mod grammars;
 pub mod language;
 mod parse;
 pub mod source;
-mod spec;
+pub mod spec;
 pub mod spelled;
 pub mod text;
 pub mod verdict;

@@ -2,9 +2,10 @@
 
 use crate::file::{Part, Span, is_comment};
 use crate::inputs::{Inputs, Listed, Wrong};
+use crate::sheet::{FURTHER, TOKENS};
 use std::alloc::{AllocError, Global};
 use std::io;
-use yexplain::reads::set;
+use yexplain::reads::{Made, set};
 use yinput::verdict::{Verdict, verdict_on};
 use ytables::Tables;
 
@@ -69,6 +70,26 @@ fn came_of(verdict: &Verdict, count: usize, ended: bool) -> Came {
     }
 }
 
+/// The tokens that the comment below an input has, where it has one: where they stand, and their
+/// words, which may go on in further lines.
+fn noted_below(alloc: Global, source: &[u8], line: Span) -> Made<Option<(Span, Vec<u8>)>> {
+    let mut start = line.end.saturating_add(1);
+    let mut front = TOKENS;
+    let (mut place, mut words) = (None, Vec::new(alloc));
+    for bytes in source.get(start..).unwrap_or(&[]).split(|b| *b == b'\n') {
+        let end = start.saturating_add(bytes.len());
+        let Some(rest) = bytes.strip_prefix(front.as_bytes()) else {
+            break;
+        };
+        words.extend_from_slice(rest)?;
+        start = end.saturating_sub(rest.len());
+        place = place.or(Some(Span { start, end }));
+        start = end.saturating_add(1);
+        front = FURTHER;
+    }
+    Ok(place.map(|place| (place, words)))
+}
+
 impl Claim {
     /// The state that it claims, where its last token is an error.
     pub fn state(&self) -> Option<usize> {
@@ -117,12 +138,21 @@ impl Claims {
         if is_comment(line.of(source)) {
             return Ok(None);
         }
-        match inputs.read(alloc, line.of(source))? {
+        let noted = if inputs.noted {
+            noted_below(alloc, source, line)?
+        } else {
+            None
+        };
+        let (place, read) = match &noted {
+            Some((place, words)) => (*place, inputs.read(alloc, words)?),
+            None => (line, inputs.read(alloc, line.of(source))?),
+        };
+        match read {
             Ok(input) => {
                 self.add(alloc, inputs.tables, (part, line), input)?;
                 Ok(None)
             }
-            Err(wrong) => Ok(Some(Unread { line, wrong })),
+            Err(wrong) => Ok(Some(Unread { line: place, wrong })),
         }
     }
 

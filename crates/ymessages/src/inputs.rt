@@ -18,6 +18,8 @@ pub struct Inputs<'a> {
     pub(crate) tables: &'a Tables,
     /// What cuts texts; without it, inputs are tokens.
     pub(crate) lexer: Option<&'a Lexer>,
+    /// Whether an input is rather the tokens that the comment below it has, where it has one.
+    pub(crate) noted: bool,
 }
 
 /// An input as tokens.
@@ -76,9 +78,12 @@ impl Listed {
 
 impl<'a> Inputs<'a> {
     /// Inputs that are tokens.
-    pub fn of_tokens(tables: &'a Tables) -> Inputs<'a> {
-        let lexer = None;
-        Inputs { tables, lexer }
+    pub(crate) fn of_tokens(tables: &'a Tables) -> Inputs<'a> {
+        Inputs {
+            tables,
+            lexer: None,
+            noted: false,
+        }
     }
 
     /// Inputs of a language: texts, where it has a SPEC.
@@ -86,6 +91,7 @@ impl<'a> Inputs<'a> {
         Inputs {
             tables: &language.opened.tables,
             lexer: language.lexer(),
+            noted: false,
         }
     }
 

@@ -13,7 +13,7 @@ mod claims;
 mod data;
 mod file;
 pub mod filling;
-pub mod inputs;
+mod inputs;
 pub mod messages;
 mod refusal;
 pub mod run;

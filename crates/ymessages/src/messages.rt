@@ -12,6 +12,7 @@ use yexplain::reads::{Made, grammar_of};
 use yfiles::diagnostic::Diagnostics;
 use yfiles::reading::Limited;
 use yinput::language::Language;
+use yinput::spec::read_lexer;
 use ytables::Tables;
 
 /// A file of messages: its bytes, its parts, and what its inputs claim.
@@ -95,7 +96,7 @@ impl Messages {
 
     /// A file of these bytes, by its path, whose inputs are read so.
     /// Where something is wrong with it, that is said, and the exit status is the answer.
-    pub fn checked(
+    fn checked(
         alloc: Global,
         inputs: Inputs<'_>,
         path: &str,
@@ -114,7 +115,7 @@ impl Messages {
 
     /// Opens a file, whose inputs are read so. Where something is wrong with it, that is said, and
     /// the exit status is the answer.
-    pub fn open<F: Files + AllocGlobal>(
+    pub(crate) fn open<F: Files + AllocGlobal>(
         rt: &F,
         inputs: Inputs<'_>,
         file: Limited<'_>,
@@ -125,6 +126,22 @@ impl Messages {
             Err(status) => return Ok(Err(status)),
         };
         Messages::checked(rt.alloc(), inputs, file.path, bytes, told)
+    }
+
+    /// A file of these bytes likewise, whose inputs are read so, or are all tokens.
+    fn either(
+        alloc: Global,
+        inputs: Inputs<'_>,
+        path: &str,
+        bytes: Vec<u8>,
+        told: &mut Diagnostics,
+    ) -> io::Result<Result<Messages, u8>> {
+        let inputs = if has_tokens_alone(alloc, inputs.tables, &bytes)? {
+            Inputs::of_tokens(inputs.tables)
+        } else {
+            inputs
+        };
+        Messages::checked(alloc, inputs, path, bytes, told)
     }
 
     /// Opens a file likewise, whose inputs are those of a language, or are all tokens.
@@ -138,13 +155,38 @@ impl Messages {
             Ok(bytes) => bytes,
             Err(status) => return Ok(Err(status)),
         };
-        let tables = &language.opened.tables;
-        let inputs = if has_tokens_alone(rt.alloc(), tables, &bytes)? {
-            Inputs::of_tokens(tables)
-        } else {
-            Inputs::of_language(language)
+        let inputs = Inputs::of_language(language);
+        Messages::either(rt.alloc(), inputs, file.path, bytes, told)
+    }
+
+    /// Opens a file likewise for the tables of a grammar file. Its inputs are cut by the SPEC at a
+    /// path, where there is one, or are all tokens; without it, those of texts stand below them.
+    pub fn open_with<F: Files + AllocGlobal>(
+        rt: &F,
+        (grammar, tables): (&str, &Tables),
+        spec: Option<&str>,
+        file: Limited<'_>,
+        told: &mut Diagnostics,
+    ) -> io::Result<Result<Messages, u8>> {
+        let bytes = match file.bytes_or_status(rt, false, told)? {
+            Ok(bytes) => bytes,
+            Err(status) => return Ok(Err(status)),
         };
-        Messages::checked(rt.alloc(), inputs, file.path, bytes, told)
+        let Some(spec) = spec else {
+            let lexer = None;
+            let noted = true;
+            let inputs = Inputs { tables, lexer, noted };
+            return Messages::checked(rt.alloc(), inputs, file.path, bytes, told);
+        };
+        match read_lexer(rt, tables, spec)? {
+            Ok(lexer) => {
+                let lexer = Some(&lexer);
+                let noted = false;
+                let inputs = Inputs { tables, lexer, noted };
+                Messages::either(rt.alloc(), inputs, file.path, bytes, told)
+            }
+            Err(fault) => fault.tell_of(rt, told, grammar, tables).map(Err),
+        }
     }
 
     /// The message of a state, where it has one.

@@ -16,6 +16,14 @@ const WIDTH: usize = 78;
 /// The most items of a state that are shown.
 const MOST_ITEMS: usize = 12;
 
+/// What the tokens of a text stand after, and after what they go on in further lines.
+pub const TOKENS: &str = "## tokens  ";
+
+pub const FURTHER: &str = "##         ";
+
+/// The greatest number of an entry of the stack that a message can have.
+const MOST_ENTRIES: usize = 99;
+
 /// The reasons for which a state has no input, in the order in which they are written.
 const REASONS: [Reason; 6] = [
     Reason::Reduces,
@@ -26,13 +34,24 @@ const REASONS: [Reason; 6] = [
     Reason::Late,
 ];
 
-/// Writes a word of a list, on another line where this one is full.
-fn put_word<W: Write>(page: &mut Page<W>, word: &str) {
-    if page.column().saturating_add(word.len()) >= WIDTH {
+/// Writes a word of a list, on another line where this one is full. An entry of the stack has its
+/// number before it, where that isn't 0.
+fn put_word<W: Write>(page: &mut Page<W>, number: usize, word: &str) {
+    let front = match number {
+        0 => 0,
+        1..10 => 3,
+        _ => 4,
+    };
+    if page.column().saturating_add(word.len()).saturating_add(front) >= WIDTH {
         page.end();
-        page.put("##         ");
+        page.put(FURTHER);
     }
     page.put(" ");
+    if number > 0 {
+        page.put("$");
+        page.number(number);
+        page.put("=");
+    }
     page.put(word);
 }
 
@@ -40,9 +59,24 @@ fn put_word<W: Write>(page: &mut Page<W>, word: &str) {
 fn put_symbols<W: Write>(page: &mut Page<W>, grammar: &Grammar, title: &str, symbols: &[Sym]) {
     page.put(title);
     for symbol in symbols {
-        put_word(page, name_of(grammar, *symbol));
+        put_word(page, 0, name_of(grammar, *symbol));
     }
     if symbols.is_empty() {
+        page.put(" (nothing)");
+    }
+    page.end();
+}
+
+/// Writes the symbols of a stack, the top last, each with what a message calls it.
+fn put_stack<W: Write>(page: &mut Page<W>, grammar: &Grammar, stack: &[Sym]) {
+    page.put("## stack   ");
+    let mut number = stack.len();
+    for symbol in stack {
+        let shown = if number > MOST_ENTRIES { 0 } else { number };
+        put_word(page, shown, name_of(grammar, *symbol));
+        number = number.saturating_sub(1);
+    }
+    if stack.is_empty() {
         page.put(" (nothing)");
     }
     page.end();
@@ -57,15 +91,15 @@ fn put_list<W: Write>(
 ) {
     page.put(title);
     for token in tokens {
-        put_word(page, name_of(grammar, *token));
+        put_word(page, 0, name_of(grammar, *token));
     }
-    put_word(page, name_of(grammar, last));
+    put_word(page, 0, name_of(grammar, last));
     page.end();
 }
 
 /// Writes the tokens of a text.
 pub fn put_tokens<W: Write>(page: &mut Page<W>, grammar: &Grammar, list: (&[Sym], Sym)) {
-    put_list(page, grammar, "## tokens  ", list);
+    put_list(page, grammar, TOKENS, list);
 }
 
 /// Writes the tokens for which no text is found.
@@ -102,7 +136,7 @@ pub fn put_state<W: Write>(
     let grammar = grammar_of(tables);
     let _ = writeln!(page, "## state {state}");
     put_items(page, tables, state);
-    put_symbols(page, grammar, "## stack   ", &confirmed.stack);
+    put_stack(page, grammar, &confirmed.stack);
     put_symbols(page, grammar, "## expected", &confirmed.wanted.can);
     if !confirmed.wanted.unknown.is_empty() {
         put_symbols(page, grammar, "## unknown ", &confirmed.wanted.unknown);
@@ -156,7 +190,7 @@ fn put_states<W: Write>(page: &mut Page<W>, errors: &Errors, reason: Reason) {
             is_begun = true;
             if page.column().saturating_add(5) >= WIDTH {
                 page.end();
-                page.put("##         ");
+                page.put(FURTHER);
             }
             page.put(" ");
             page.number(state);

@@ -151,6 +151,7 @@ impl<'a> Update<'a> {
         let inputs = Inputs {
             tables: self.tables,
             lexer: self.writer.map(|writer| &writer.lexer),
+            noted: false,
         };
         let list = (confirmed.tokens.as_slice(), confirmed.last);
         line_of(self.alloc, inputs, self.writer, list)

@@ -86,6 +86,20 @@ yycan_come (const yystate_number *yyssp, int yytoken)
       } \
   } while (0)
 @end
+@if recalls
+/* Before the first action on a token: where it can't be shifted after all that would be reduced
+   before it, a message lists what could come here. */
+#define YYLOOK \
+  do { \
+    if (!yylooked) \
+      { \
+        yylooked = 1; \
+        yywanted = -1; \
+        if (!yycan_come (yyssp, YY_CAST (int, yytoken))) \
+          yywanted = yyexpected (yyssp, YY_CAST (int, yytoken), yywants, YYNTOKENS); \
+      } \
+  } while (0)
+@end
 @end
 "##;
 

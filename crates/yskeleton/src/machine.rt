@@ -46,9 +46,16 @@ YYPARSE_DECL()
   unsigned yyn;
   /* While an action runs, how many symbols its rule has. */
   unsigned yym = 0;
-@if lac
-  /* Whether it is known that the token can be shifted after what is reduced before it. */
+@if looks
+  /* Whether the token was tried before what is reduced at it. */
   int yylooked = 0;
+@end
+@if speaks
+  /* The tokens of each entry of the stack, and those that could come in place of a wrong one. */
+  yyleaves yyleafa[YYROOM (YYINITDEPTH)];
+  yyleaves *yyleaf = yyleafa;
+  int yywants[YYNTOKENS];
+  int yywanted = -1;
 @end
   int yyresult;
 
@@ -83,6 +90,7 @@ YYPARSE_DECL()
 @end
 @end
 @locations   memset (YY_CAST (void *, yyerror_range), 0, sizeof yyerror_range);
+@speaks   yyleaf->yycount = 0;
   *yyssp = 0;
 "##;
 
@@ -100,6 +108,7 @@ yyloop:
     }
   if (yychar == YYNOTOKEN)
     {
+@recalls       yylooked = 0;
       yychar = YYLEX;
       if (yychar < 0)
         yychar = YYENDTOKEN;
@@ -121,7 +130,7 @@ yyloop:
       yyn = yyusual[yystate];
       if (yyn == 0 || !YYMEMBER (yystate, yytoken))
         goto yyerrlab;
-@lac       YYLOOK;
+@looks       YYLOOK;
       goto yyreduce;
     }
   yyn = yyvalue[yyn];
@@ -131,7 +140,7 @@ yyloop:
       if (yyn == YYNRULES)
         goto yyerrlab;
       if (yyn != 0)
-@if lac
+@if looks
         {
           YYLOOK;
           goto yyreduce;
@@ -153,8 +162,9 @@ yyloop:
   if (yyerrflag > 0)
     --yyerrflag;
   yychar = YYNOTOKEN;
-@lac   yylooked = 0;
+@looks   yylooked = 0;
   yystate = yyn;
+@speaks   yyleaf_of (yyleaf + (yyssp - yyss) + 1, YY_CAST (int, yytoken));
   *++yyvsp = yylval;
 @locations   *++yylsp = yylloc;
 
@@ -177,6 +187,7 @@ yyreduce:
   YYLLOC_DEFAULT (yyloc, (yylsp - yym), YY_CAST (int, yym));
   yyerror_range[1] = yyloc;
 @end
+@speaks   yyfold (yyleaf + (yyssp - yyss), YY_CAST (int, yym));
   switch (yyn)
     {
 "##;
@@ -201,6 +212,7 @@ yygrow:
     yystate_number *yynewss;
     YYSTYPE *yynewvs;
 @locations     YYLTYPE *yynewls;
+@speaks     yyleaves *yynewleaf;
 
 @destroys     yym = 0;
     if (yydepth >= YYMAXDEPTH)
@@ -229,6 +241,17 @@ yygrow:
       }
     memcpy (YY_CAST (void *, yynewls), YY_CAST (const void *, yyls), yyused * sizeof *yynewls);
 @end
+@if speaks
+    yynewleaf = YY_CAST (yyleaves *, YYMALLOC (YYROOM (yydepth) * sizeof *yynewleaf));
+    if (!yynewleaf)
+      {
+        YYFREE (yynewss);
+        YYFREE (yynewvs);
+@locations         YYFREE (yynewls);
+        YYNOMEM;
+      }
+    memcpy (yynewleaf, yyleaf, yyused * sizeof *yynewleaf);
+@end
     memcpy (yynewss, yyss, yyused * sizeof *yynewss);
     memcpy (YY_CAST (void *, yynewvs), YY_CAST (const void *, yyvs), yyused * sizeof *yynewvs);
     if (yyss != yyssa)
@@ -236,9 +259,11 @@ yygrow:
         YYFREE (yyss);
         YYFREE (yyvs);
 @locations         YYFREE (yyls);
+@speaks         YYFREE (yyleaf);
       }
     yyss = yynewss;
     yyvs = yynewvs;
+@speaks     yyleaf = yynewleaf;
     yyssp = yyss + yyused - 1;
     yysslast = yyss + YYROOM (yydepth) - 1;
     yyvsp = yyvs + yyused - 1;
@@ -297,7 +322,16 @@ yyerrlab:
 @if speaks
       if (yysaid[yystate] != 0)
         {
-          char *yymsg = yyspoken (yyss, yyssp, YY_CAST (int, yytoken));
+          yyplight yyabout;
+          char *yymsg;
+@recalls           if (!yylooked || yywanted < 0)
+            yywanted = yyexpected (yyssp, YY_CAST (int, yytoken), yywants, YYNTOKENS);
+          yyabout.yytop = yyleaf + (yyssp - yyss);
+          yyabout.yydepth = YY_CAST (long, yyssp - yyss);
+          yyabout.yytoken = YY_CAST (int, yytoken);
+          yyabout.yywanted = yywanted;
+          yyabout.yywants = yywants;
+          yymsg = yyspoken (yypieces + yysaid[yystate], &yyabout);
           YYERROR_CALL (yymsg ? yymsg : YY_("syntax error"));
           if (!yymsg)
             YYNOMEM;
@@ -369,8 +403,9 @@ yyrecover:
   YYTRACE ((stderr, "%sdebug: state %u, error recovery shifting to state %u\n", YYPREFIX, yystate,
             yyn));
   YYSTEP ('x', YY_CAST (int, yyn));
-@lac   yylooked = 0;
+@looks   yylooked = 0;
   yystate = yyn;
+@speaks   yyleaf_of (yyleaf + (yyssp - yyss) + 1, YYERRTOKEN);
   *++yyvsp = yylval;
 @if locations
   yyerror_range[2] = yylloc;
@@ -425,6 +460,7 @@ yyreturn:
       YYFREE (yyss);
       YYFREE (yyvs);
 @locations       YYFREE (yyls);
+@speaks       YYFREE (yyleaf);
     }
   return yyresult;
 }

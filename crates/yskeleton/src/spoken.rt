@@ -106,6 +106,53 @@ typedef struct
 
 /// How a message is put together.
 pub const SPOKEN: &str = r##"
+/* The tokens of an entry of the stack: how many, and the first 20. */
+typedef struct
+{
+  int yycount;
+  int yytokens[20];
+} yyleaves;
+
+/* What a message is about: the entry on top of the stack, how many there are, the wrong token, and
+   those that could come. */
+typedef struct
+{
+  const yyleaves *yytop;
+  long yydepth;
+  int yytoken;
+  int yywanted;
+  const int *yywants;
+} yyplight;
+
+/* An entry of one token. */
+static void
+yyleaf_of (yyleaves *yyp, int yytoken)
+{
+  yyp->yycount = 1;
+  yyp->yytokens[0] = yytoken;
+}
+
+/* Makes one entry of so many on top of the stack: it has the tokens of all. */
+static void
+yyfold (yyleaves *yytop, int yylength)
+{
+  yyleaves *yyto = yytop + 1 - yylength;
+  const yyleaves *yyfrom = yyto;
+  int yyn;
+  if (yylength == 0)
+    yyto->yycount = 0;
+  while (yyfrom < yytop)
+    {
+      ++yyfrom;
+      for (yyn = 0; yyn < yyfrom->yycount && yyto->yycount <= 20; ++yyn)
+        {
+          if (yyto->yycount < 20)
+            yyto->yytokens[yyto->yycount] = yyfrom->yytokens[yyn];
+          ++yyto->yycount;
+        }
+    }
+}
+
 /* Copies a text to a place of another, unless that is null, and gives the place after it. */
 static size_t
 yyadd (char *yyto, size_t yyat, const char *yytext)
@@ -118,57 +165,66 @@ yyadd (char *yyto, size_t yyat, const char *yytext)
 
 /* The same of the tokens that could come: the first 20, and dots where there are more. */
 static size_t
-yyadd_expected (char *yyto, size_t yyat, const yystate_number *yyssp, int yywrong)
+yyadd_expected (char *yyto, size_t yyat, const yyplight *yyp)
 {
-  int yytokens[YYNTOKENS];
-  int yycount = yyexpected (yyssp, yywrong, yytokens, YYNTOKENS);
   int yyn;
-  for (yyn = 0; yyn < yycount && yyn < 20; ++yyn)
+  for (yyn = 0; yyn < yyp->yywanted && yyn < 20; ++yyn)
     {
       if (yyn != 0)
-        yyat = yyadd (yyto, yyat, yyn + 1 == yycount ? " or " : ", ");
-      yyat = yyadd (yyto, yyat, yycalled[yytokens[yyn]]);
+        yyat = yyadd (yyto, yyat, yyn + 1 == yyp->yywanted ? " or " : ", ");
+      yyat = yyadd (yyto, yyat, yycalled[yyp->yywants[yyn]]);
     }
-  return yycount > 20 ? yyadd (yyto, yyat, ", ..") : yyat;
+  return yyp->yywanted > 20 ? yyadd (yyto, yyat, ", ..") : yyat;
+}
+
+/* The same of the tokens of an entry of the stack. */
+static size_t
+yyadd_entry (char *yyto, size_t yyat, const yyleaves *yyp)
+{
+  int yyn;
+  for (yyn = 0; yyn < yyp->yycount && yyn < 20; ++yyn)
+    {
+      if (yyn != 0)
+        yyat = yyadd (yyto, yyat, " ");
+      yyat = yyadd (yyto, yyat, yycalled[yyp->yytokens[yyn]]);
+    }
+  return yyp->yycount > 20 ? yyadd (yyto, yyat, " ..") : yyat;
 }
 
 /* The same of a piece; an entry of the stack that isn't there is nothing. */
 static size_t
-yyadd_piece (char *yyto, size_t yyat, const yypiece *yyp, const yystate_number *yyss,
-             const yystate_number *yyssp, int yytoken)
+yyadd_piece (char *yyto, size_t yyat, const yypiece *yyp, const yyplight *yyabout)
 {
   if (yyp->yytext)
     return yyadd (yyto, yyat, yyp->yytext);
   if (yyp->yyvalue < 0)
-    return yyadd_expected (yyto, yyat, yyssp, yytoken);
+    return yyadd_expected (yyto, yyat, yyabout);
   if (yyp->yyvalue == 0)
-    return yyadd (yyto, yyat, yycalled[yytoken]);
-  if (yyp->yyvalue > yyssp - yyss)
+    return yyadd (yyto, yyat, yycalled[yyabout->yytoken]);
+  if (yyp->yyvalue > yyabout->yydepth)
     return yyat;
-  return yyadd (yyto, yyat, yycalled[yystos[*(yyssp - (yyp->yyvalue - 1))]]);
+  return yyadd_entry (yyto, yyat, yyabout->yytop - (yyp->yyvalue - 1));
 }
 
-/* The same of the message of the state on top of the stack. */
+/* The same of the message that begins with a piece. */
 static size_t
-yyadd_all (char *yyto, const yystate_number *yyss, const yystate_number *yyssp, int yytoken)
+yyadd_all (char *yyto, const yypiece *yyp, const yyplight *yyabout)
 {
-  const yypiece *yyp = yypieces + yysaid[*yyssp];
   size_t yyat = 0;
   for (; yyp->yytext || yyp->yyvalue > -2; ++yyp)
-    yyat = yyadd_piece (yyto, yyat, yyp, yyss, yyssp, yytoken);
+    yyat = yyadd_piece (yyto, yyat, yyp, yyabout);
   return yyat;
 }
 
 /* That message, in memory of its own; null where there is none. */
 static char *
-yyspoken (const yystate_number *yyss, const yystate_number *yyssp, int yytoken)
+yyspoken (const yypiece *yyp, const yyplight *yyabout)
 {
-  size_t yylength = yyadd_all (YY_NULLPTR, yyss, yyssp, yytoken);
-  char *yymsg = YY_CAST (char *, YYMALLOC (yylength + 1));
+  char *yymsg = YY_CAST (char *, YYMALLOC (yyadd_all (YY_NULLPTR, yyp, yyabout) + 1));
   if (yymsg)
     {
       *yymsg = '\0';
-      (void) yyadd_all (yymsg, yyss, yyssp, yytoken);
+      (void) yyadd_all (yymsg, yyp, yyabout);
     }
   return yymsg;
 }

@@ -182,9 +182,10 @@ impl<'a> Style<'a> {
         matches!(self.wishes.policy, Policy::Most)
     }
 
-    /// Whether a token is tried before the first action on it.
+    /// Whether a token is tried before the first action on it. Messages belong to states that have
+    /// reduced at the token.
     pub fn looks_ahead(&self) -> bool {
-        self.options.lac && self.is_bison()
+        self.options.lac && self.is_bison() && !self.wishes.speaks
     }
 
     /// Whether entries are taken off the stack again after a token was discarded, as bison's do.
@@ -202,6 +203,11 @@ impl<'a> Style<'a> {
     pub fn has_rows(&self) -> bool {
         let is_plain = !self.wishes.lists && !self.wishes.speaks;
         !self.looks_ahead() && (self.is_most() || is_plain)
+    }
+
+    /// Whether messages list the tokens that could come before anything is reduced at a wrong one.
+    fn recalls(&self) -> bool {
+        self.wishes.speaks && !self.has_rows() && !self.lists()
     }
 
     /// Whether they are those that bison would list, of a parser that has not reduced as bison's
@@ -244,6 +250,8 @@ impl<'a> Style<'a> {
             "lists" => self.lists(),
             "again" => self.pops_again(),
             "lac" => self.looks_ahead(),
+            "recalls" => self.recalls(),
+            "looks" => self.looks_ahead() || self.recalls(),
             "asks" => self.asks(),
             "rows" => self.has_rows(),
             "speaks" => self.wishes.speaks,

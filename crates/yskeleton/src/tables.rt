@@ -235,7 +235,7 @@ impl Skeleton<'_> {
     /// Writes the kind of the symbol that leads to each state, where it is asked for.
     fn put_leading(&self, alloc: Global, out: &mut Output) -> Made<()> {
         let style = self.style;
-        let is_traced = !style.destroys && !style.wishes.speaks;
+        let is_traced = !style.destroys;
         if is_traced && !style.prints {
             return Ok(());
         }

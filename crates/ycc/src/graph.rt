@@ -1,0 +1,367 @@
+//! The automaton as a graph in DOT, laid out as bison or byacc writes it.
+
+use std::alloc::Global;
+use ycode::Code;
+use yexplain::reads::{
+    Made, action_of, body_of, goto_of, grammar_of, is_complete, is_kernel, items_of, left_of,
+    looks_at, name_of,
+};
+use yfiles::output::Output;
+use yfindings::walk::{Walk, left_in};
+use ylalr::{END, ERROR, Item, token_count};
+use yparts::parts::Parts;
+use ysymbols::Sym;
+use ytables::{Action, Tables};
+
+/// What stands before the states.
+const HEAD: &str = "\"\n{
+  node [fontname = courier, shape = box, colorscheme = paired6]
+  edge [fontname = courier]
+
+";
+
+/// What stands before the states for byacc.
+const OLD_HEAD: &str = " {
+\tedge [fontsize=10];
+\tnode [shape=box,fontsize=10];
+\torientation=landscape;
+\trankdir=LR;
+\t/*
+\tmargin=0.2;
+\tpage=\"8.27,11.69\"; // for A4 printing
+\tratio=auto;
+\t*/
+";
+
+/// An automaton that is drawn: its tables, the names of its symbols in the file, and which states
+/// reduce by default.
+#[derive(Clone, Copy)]
+pub struct Graph<'a> {
+    /// What allocates.
+    pub alloc: Global,
+    /// The tables.
+    pub tables: &'a Tables,
+    /// What the file says of symbols.
+    pub parts: &'a Parts<'a>,
+    /// The arrays of the parser.
+    pub code: &'a Code,
+    /// Whether it is laid out as bison's, or as byacc's.
+    pub is_bison: bool,
+}
+
+/// Writes bytes within quotes.
+fn put_quoted(out: &mut Output, bytes: &[u8]) {
+    for byte in bytes {
+        if matches!(*byte, b'"' | b'\\') {
+            out.put("\\");
+        }
+        out.put_bytes(&[*byte]);
+    }
+}
+
+impl Graph<'_> {
+    /// Writes what a symbol is called in the file; that of an action within a body as bison calls
+    /// it.
+    fn put_name(self, out: &mut Output, symbol: Sym) {
+        let name = name_of(grammar_of(self.tables), symbol);
+        match (self.parts.looks_of(symbol).label, name.strip_prefix(b"$$")) {
+            (Some([b'_', b'(', text @ .., b')']), _) => put_quoted(out, text.trim_ascii()),
+            (Some(label), _) => put_quoted(out, label),
+            (None, Some(number)) if self.is_bison => {
+                out.put("$@");
+                out.put_bytes(number);
+            }
+            (None, _) => put_quoted(out, name),
+        }
+    }
+
+    /// Writes the body of an item with a dot. In rule 0 the end follows it, which may be passed.
+    fn put_body(self, out: &mut Output, item: Item, dot: &str, is_passed: bool) {
+        let body = body_of(grammar_of(self.tables), item.rule);
+        for symbol in body.get(..item.dot).unwrap_or(body) {
+            self.put_name(out, *symbol);
+            out.put(" ");
+        }
+        if is_passed {
+            self.put_name(out, END);
+            out.put(" ");
+        }
+        out.put(dot);
+        for symbol in body.get(item.dot..).unwrap_or(&[]) {
+            out.put(" ");
+            self.put_name(out, *symbol);
+        }
+        if item.rule == 0 && !is_passed {
+            out.put(" ");
+            self.put_name(out, END);
+        }
+    }
+
+    /// Writes an item of a rule, whose left side may be that of the item before. In rule 0 the end
+    /// may be passed.
+    fn put_item(self, out: &mut Output, item: Item, is_passed: bool, before: Option<Sym>) {
+        let grammar = grammar_of(self.tables);
+        if item.rule < 100 {
+            out.put(if item.rule < 10 { "  " } else { " " });
+        }
+        out.number(item.rule);
+        out.put(" ");
+        let left = left_of(grammar, item.rule);
+        match (left, before) {
+            (Some(left), Some(before)) if left == before => {
+                out.spaces(name_of(grammar, left).len());
+                out.put("| ");
+            }
+            (Some(left), _) => {
+                self.put_name(out, left);
+                out.put(": ");
+            }
+            (None, _) => out.put("$accept: "),
+        }
+        self.put_body(out, item, "•", is_passed);
+        out.put("\\l");
+    }
+
+    /// Writes a state with its kernel.
+    fn put_state(self, out: &mut Output, state: usize) {
+        put_head(out, state);
+        let mut before = None;
+        for item in items_of(self.tables.automaton(), state) {
+            if is_kernel(*item) {
+                self.put_item(out, *item, false, before);
+                before = left_of(grammar_of(self.tables), item.rule);
+            }
+        }
+        out.put("\"]\n");
+    }
+
+    /// Writes where symbols lead from a state: shifts, gotos, and `error`. After all states comes
+    /// the one in which the end is shifted.
+    fn put_ways(self, out: &mut Output, state: usize) {
+        let grammar = grammar_of(self.tables);
+        for symbol in 0..grammar.symbols() {
+            let (next, style) = if grammar.is_token(symbol) {
+                match action_of(self.tables, state, symbol) {
+                    Action::Shift(next) => (Some(next), "solid"),
+                    Action::Accept => (Some(self.code.states), "solid"),
+                    _ => (None, ""),
+                }
+            } else {
+                (goto_of(self.tables.automaton(), state, symbol), "dashed")
+            };
+            let Some(next) = next else {
+                continue;
+            };
+            out.put("  ");
+            out.number(state);
+            out.put(" -> ");
+            out.number(next);
+            if symbol == ERROR {
+                out.put(" [style=dotted]\n");
+                continue;
+            }
+            out.put(" [style=");
+            out.put(style);
+            out.put(" label=\"");
+            self.put_name(out, symbol);
+            out.put("\"]\n");
+        }
+    }
+
+    /// The rule that a state reduces by default, where it does: what is no token is in its set.
+    fn default_rule(self, state: usize) -> Option<usize> {
+        let code = self.code;
+        let number = *code.sets.as_slice().get(state)?;
+        let place = number.saturating_mul(code.span).saturating_add(code.tokens / 8);
+        let byte = code.bits.as_slice().get(place).copied().unwrap_or(0);
+        if number == 0 || (byte >> (code.tokens % 8)) & 1 == 1 {
+            code.usual.as_slice().get(state).copied()
+        } else {
+            None
+        }
+    }
+
+    /// Writes the tokens at which a rule is left in a state: those that other actions own, or the
+    /// rest; and says whether there are any.
+    fn put_tokens(
+        self,
+        out: &mut Output,
+        (state, rule): (usize, usize),
+        owned: &[bool],
+        is_lost: bool,
+    ) -> bool {
+        let mut any = false;
+        for (token, it) in owned.iter().enumerate() {
+            if *it == is_lost && left_in(self.tables, state, token, rule).has_rule {
+                out.put(if any { ", " } else { "" });
+                self.put_name(out, token);
+                any = true;
+            }
+        }
+        any
+    }
+
+    /// Writes the reductions of a state, each apart at tokens at which it loses a conflict.
+    fn put_reductions(self, out: &mut Output, state: usize) -> Made<()> {
+        let grammar = grammar_of(self.tables);
+        let mut owned = Vec::new(self.alloc);
+        for token in 0..token_count(grammar) {
+            let is_free = matches!(action_of(self.tables, state, token), Action::Reduce(_));
+            owned.push(!is_free)?;
+        }
+        let default = self.default_rule(state);
+        for item in items_of(self.tables.automaton(), state) {
+            let rule = item.rule;
+            if rule == 0 || !is_complete(grammar, *item) {
+                continue;
+            }
+            let (mut lost, mut taken) = (Output::new(self.alloc), Output::new(self.alloc));
+            if self.put_tokens(&mut lost, (state, rule), &owned, true) {
+                put_reduction(out, (state, rule), Some(&lost), "d", "5");
+            }
+            let is_taken = self.put_tokens(&mut taken, (state, rule), &owned, false);
+            if default == Some(rule) {
+                put_reduction(out, (state, rule), None, "", "3");
+            } else if is_taken {
+                put_reduction(out, (state, rule), Some(&taken), "", "3");
+            }
+            for (token, it) in owned.iter_mut().enumerate() {
+                *it = *it || left_in(self.tables, state, token, rule).has_rule;
+            }
+        }
+        Ok(())
+    }
+
+    /// Writes a state as byacc does, with all its items.
+    fn put_old_state(self, out: &mut Output, state: usize) {
+        let grammar = grammar_of(self.tables);
+        let automaton = self.tables.automaton();
+        out.put("\n\tq");
+        out.number(state);
+        out.put(" [label=\"");
+        out.number(state);
+        out.put(":\\l");
+        for item in items_of(automaton, state) {
+            out.put("  ");
+            if let Some(left) = left_of(grammar, item.rule) {
+                self.put_name(out, left);
+            }
+            out.put(" -> ");
+            self.put_body(out, *item, ".", false);
+            if item.rule > 0 && is_complete(grammar, *item) {
+                out.put(" { ");
+                for token in (0..token_count(grammar)).rev() {
+                    if looks_at(automaton, state, *item, token) {
+                        self.put_name(out, token);
+                        out.put(" ");
+                    }
+                }
+                out.put("}");
+            }
+            out.put("\\l");
+        }
+        out.put("\"];");
+    }
+
+    /// The graph as byacc writes it, by this name.
+    pub fn old_text(self, name: &str) -> Made<Vec<u8>> {
+        let (automaton, mut out) = (self.tables.automaton(), Output::new(self.alloc));
+        out.put("digraph ");
+        out.put(name);
+        out.put(OLD_HEAD);
+        for state in 0..automaton.states() {
+            self.put_old_state(&mut out, state);
+        }
+        out.put("\n\n");
+        for state in 0..automaton.states() {
+            for symbol in 0..grammar_of(self.tables).symbols() {
+                if let Some(next) = goto_of(automaton, state, symbol) {
+                    out.put("\tq");
+                    out.number(state);
+                    out.put(" -> q");
+                    out.number(next);
+                    out.put(" [label=\"");
+                    self.put_name(&mut out, symbol);
+                    out.put("\"];\n");
+                }
+            }
+        }
+        out.put("}\n");
+        out.into_bytes()
+    }
+
+    /// The graph of a grammar file of this path.
+    pub fn text(self, path: &str) -> Made<Vec<u8>> {
+        let mut out = Output::new(self.alloc);
+        out.put("// Generated by ycc.\n\ndigraph \"");
+        put_quoted(&mut out, path.as_bytes());
+        out.put(HEAD);
+        let walk = Walk::new(self.alloc, self.tables)?;
+        let end = self.code.states;
+        for state in 0..end {
+            if walk.comes_to(state) {
+                self.put_state(&mut out, state);
+                self.put_ways(&mut out, state);
+                self.put_reductions(&mut out, state)?;
+            }
+        }
+        put_head(&mut out, end);
+        let dot = body_of(grammar_of(self.tables), 0).len();
+        self.put_item(&mut out, Item { rule: 0, dot }, true, None);
+        out.put("\"]\n");
+        put_reduction(&mut out, (end, 0), None, "", "1");
+        out.put("}\n");
+        out.into_bytes()
+    }
+}
+
+/// Writes the head of a state.
+fn put_head(out: &mut Output, state: usize) {
+    out.put("  ");
+    out.number(state);
+    out.put(" [label=\"State ");
+    out.number(state);
+    out.put("\\n\\l");
+}
+
+/// Writes the reduction of a state by a rule, at these tokens or by default, and its own node.
+fn put_reduction(
+    out: &mut Output,
+    (state, rule): (usize, usize),
+    tokens: Option<&Output>,
+    end: &str,
+    color: &str,
+) {
+    for is_node in [false, true] {
+        if is_node {
+            out.put(" \"");
+        } else {
+            out.put("  ");
+            out.number(state);
+            out.put(" -> \"");
+        }
+        out.number(state);
+        out.put("R");
+        out.number(rule);
+        out.put(end);
+        out.put("\" [");
+        if let (Some(tokens), false) = (tokens, is_node) {
+            out.put("label=\"[");
+            out.put_output(tokens);
+            out.put("]\", ");
+        }
+        if !is_node {
+            out.put("style=solid]\n");
+        }
+    }
+    out.put("label=\"");
+    if rule == 0 {
+        out.put("Acc");
+    } else {
+        out.put("R");
+        out.number(rule);
+    }
+    out.put("\", fillcolor=");
+    out.put(color);
+    out.put(", shape=diamond, style=filled]\n");
+}
