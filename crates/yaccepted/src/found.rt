@@ -118,7 +118,10 @@ fn conflict_of(
     let other = (pair.other, body_of(grammar, pair.other).len());
     let is_shift = pair.taken.1 < body_of(grammar, pair.taken.0).len();
     Ok(Conflict {
-        spot: lines.spot(pair.other).unwrap_or(Spot { line: 1, column: None }),
+        spot: lines.spot(pair.other).unwrap_or(Spot {
+            line: 1,
+            column: None,
+        }),
         token: Vec::from_slice(alloc, name_of(grammar, pair.token))?,
         taken: hosts.text(alloc, grammar, pair.taken)?,
         other: hosts.text(alloc, grammar, other)?,

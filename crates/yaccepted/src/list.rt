@@ -175,7 +175,10 @@ impl Reader {
     /// Takes a rule beside what is taken.
     fn take_other(&mut self, number: usize, item: &[u8]) -> Result<(), Trouble> {
         let conflict = Conflict {
-            spot: Spot { line: number, column: None },
+            spot: Spot {
+                line: number,
+                column: None,
+            },
             token: Vec::from_slice(self.alloc, &self.token)?,
             taken: Vec::from_slice(self.alloc, &self.taken)?,
             other: Vec::from_slice(self.alloc, item)?,
