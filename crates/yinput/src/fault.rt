@@ -70,9 +70,15 @@ fn ungiven(
     Ok(one)
 }
 
+/// What is said where no line of a SPEC matches a text.
+pub const UNMATCHED: &str = "no line of the SPEC matches here";
+
+/// What is said where a token too many begins.
+pub const TOO_MANY: &str = "more than 1,000,000 tokens; this is one more";
+
 /// What is wrong at a place of a text, and the first bytes there up to the end of the line; a
 /// newline where the line ends there.
-fn fault_at(alloc: Global, place: Place<'_>, what: &str) -> io::Result<Diagnostic> {
+pub fn fault_at(alloc: Global, place: Place<'_>, what: &str) -> io::Result<Diagnostic> {
     let rest = place.source.get(place.at..).unwrap_or(&[]);
     let newline = rest.iter().skip(1).position(|b| *b == b'\n');
     let end = newline.map_or(rest.len(), |count| count.saturating_add(1));
@@ -81,16 +87,6 @@ fn fault_at(alloc: Global, place: Place<'_>, what: &str) -> io::Result<Diagnosti
     let mut one = Diagnostic::at(alloc, place, true)?;
     write!(one.message, "{what}: {shown}{more}")?;
     Ok(one)
-}
-
-/// That no line of a SPEC matches at a place of a text.
-pub fn unmatched(alloc: Global, place: Place<'_>) -> io::Result<Diagnostic> {
-    fault_at(alloc, place, "no line of the SPEC matches here")
-}
-
-/// That a token too many begins at a place of a text.
-pub fn too_many(alloc: Global, place: Place<'_>) -> io::Result<Diagnostic> {
-    fault_at(alloc, place, "more than 1,000,000 tokens; this is one more")
 }
 
 impl Fault {
@@ -171,8 +167,8 @@ impl Fault {
                 let (grammar, source) = (grammar_of(&opened.tables), (path, self.bytes.as_slice()));
                 file_fault(alloc, grammar, source, fault)
             }
-            What::Unmatched(at) => unmatched(alloc, self.place(at)),
-            What::TooMany(at) => too_many(alloc, self.place(at)),
+            What::Unmatched(at) => fault_at(alloc, self.place(at), UNMATCHED),
+            What::TooMany(at) => fault_at(alloc, self.place(at), TOO_MANY),
             What::Spec(at, wrong) => self.line_fault(alloc, at, wrong),
             What::Ungiven(token) => ungiven(alloc, path, file, opened, token),
         }

@@ -8,7 +8,7 @@ use yexplain::text::ItemText;
 use ysymbols::{Grammar, Sym};
 use ytables::Tables;
 use yview::page::Page;
-use yview::reading::{name_of, states_of};
+use yview::reading::name_of;
 
 /// How long a line of words is.
 const WIDTH: usize = 78;
@@ -28,7 +28,7 @@ const REASONS: [Reason; 6] = [
 
 /// Writes a word of a list, on another line where this one is full.
 fn put_word<W: Write>(page: &mut Page<W>, word: &str) {
-    if page.column().saturating_add(word.len()) >= WIDTH {
+    if page.column.saturating_add(word.len()) >= WIDTH {
         page.end();
         page.put("##         ");
     }
@@ -117,7 +117,7 @@ pub fn put_head<W: Write>(
     errors: &Errors,
     texts: bool,
 ) {
-    let (count, states) = (errors.count(), states_of(tables));
+    let (count, states) = (errors.count(), tables.automaton().states());
     let inputs = if texts { "texts" } else { "inputs" };
     let _ = writeln!(
         page,
@@ -154,7 +154,7 @@ fn put_states<W: Write>(page: &mut Page<W>, errors: &Errors, reason: Reason) {
                 put_reason(page, reason);
             }
             is_begun = true;
-            if page.column().saturating_add(5) >= WIDTH {
+            if page.column.saturating_add(5) >= WIDTH {
                 page.end();
                 page.put("##         ");
             }
