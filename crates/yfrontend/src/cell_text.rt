@@ -42,7 +42,10 @@ impl<'a> CellText<'a> {
 
     /// What is said of a rule: at its place, where it has one.
     fn of_rule(self, alloc: Global, rule: usize) -> io::Result<Diagnostic> {
-        let spot = self.lines.spot(rule).unwrap_or(Spot { line: 1, column: None });
+        let spot = self.lines.spot(rule).unwrap_or(Spot {
+            line: 1,
+            column: None,
+        });
         at_place(alloc, self.source.path, spot, (b"", ""))
     }
 
