@@ -17,10 +17,15 @@ const MOST_STEPS: usize = 200_000;
 
 /// The most reductions of all trials of a run that tell which tokens could come, beside those that
 /// each list may take in any case.
-pub const MOST_REDUCTIONS: usize = 8_000_000;
+const MOST_REDUCTIONS: usize = 8_000_000;
 
 /// The reductions that any list may take.
-pub const LEAST_REDUCTIONS: usize = 10_000;
+const LEAST_REDUCTIONS: usize = 10_000;
+
+/// How many reductions a run may make.
+pub fn reductions() -> Share {
+    Share::new(MOST_REDUCTIONS, 4, (LEAST_REDUCTIONS, MOST_REDUCTIONS))
+}
 
 /// A list of tokens whose last one is an error, as a session has it.
 pub struct Confirmed {

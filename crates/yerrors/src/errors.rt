@@ -1,6 +1,6 @@
 //! The errors of all states.
 
-use crate::confirm::{Confirmed, LEAST_REDUCTIONS, MOST_REDUCTIONS, confirm};
+use crate::confirm::{Confirmed, confirm, reductions};
 pub use crate::rows::MOST_STEPS;
 use crate::rows::Part;
 use crate::search::{Search, can_stand};
@@ -10,7 +10,6 @@ use std::io;
 use yexplain::reads::{Made, action_of, default_of, grammar_of};
 use ylalr::token_count;
 use yparse::Session;
-use ysearch::budget::Share;
 use ysymbols::{Sym, let_go};
 use ytables::{Action, Tables};
 
@@ -168,8 +167,7 @@ impl Errors {
     /// The errors of all states of a session's tables, by inputs without the tokens that are
     /// marked. The session is at its start, without tokens, and is left there.
     pub fn new(alloc: Global, session: &mut Session, absent: &[bool]) -> io::Result<Errors> {
-        let mut outcomes = Vec::new(alloc);
-        let mut left = Share::new(MOST_REDUCTIONS, 4, (LEAST_REDUCTIONS, MOST_REDUCTIONS));
+        let (mut outcomes, mut left) = (Vec::new(alloc), reductions());
         let mut found = seek(alloc, session.tables(), absent)?;
         for state in 0..found.len() {
             let outcome = match found.pop() {
