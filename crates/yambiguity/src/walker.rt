@@ -46,11 +46,6 @@ struct Walk {
 }
 
 impl Walk {
-    /// Whether the walk stands at the place of the conflict.
-    fn is_there(&self, claim: Claim<'_>) -> bool {
-        self.tokens.len() == claim.dot && self.before.as_slice() == claim.way
-    }
-
     /// Goes over a tree of a rule, whose children come next, and says whether it is one.
     fn enter_rule(
         &mut self,
@@ -77,12 +72,14 @@ impl Walk {
     /// of a tree comes in place of these.
     fn go(&mut self, grammar: &Grammar, trees: &Trees, claim: Claim<'_>) -> Made<bool> {
         for _ in 0..MOST_NODES {
+            // whether the walk stands at the place of the conflict
+            let is_there = self.tokens.len() == claim.dot && self.before.as_slice() == claim.way;
             let tree = match self.open.pop() {
                 None => return Ok(true),
                 Some(Visit::Close(node, before)) => {
                     let rule = claim.choice.rule();
                     let is_rule = rule.is_some() && rule == node.rule;
-                    self.is_met = self.is_met || (is_rule && self.is_there(claim));
+                    self.is_met = self.is_met || (is_rule && is_there);
                     self.before.truncate(before);
                     self.before.push(node.symbol)?;
                     continue;
@@ -96,7 +93,7 @@ impl Walk {
                 Some(rule) => self.enter_rule(grammar, trees, (tree, node), rule)?,
                 None => {
                     let is_shift = claim.choice == Choice::Shift && node.symbol == claim.token;
-                    self.is_met = self.is_met || (is_shift && self.is_there(claim));
+                    self.is_met = self.is_met || (is_shift && is_there);
                     self.before.push(node.symbol)?;
                     self.tokens.push(node.symbol)?;
                     grammar.is_token(node.symbol)

@@ -89,7 +89,8 @@ impl<F: Files + AllocGlobal, R: Read, E: Write> Given<'_, F, R, E> {
             Err(status) => return Ok(status),
         };
         let Inputs { read, status } = self.read_all(asked, &language, out)?;
-        let is_all = put_uses(self.rt.alloc(), out, language.into_opened(), &read)?;
+        let Language { opened, .. } = language;
+        let is_all = put_uses(self.rt.alloc(), out, opened, &read)?;
         Ok(if asked.strict && !is_all {
             status.max(1)
         } else {

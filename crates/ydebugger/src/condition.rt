@@ -1,20 +1,17 @@
 //! What a run stops at.
 
 use crate::refusal::Refusal;
-use crate::words::{Found, find, first_word, near_in, number_of};
+use crate::words::{Found, find, first_word, number_of};
 use std::alloc::Global;
 use std::io::Write;
-use yexplain::reads::{Made, grammar_of, left_of};
+use yexplain::reads::{Made, conflict_of, grammar_of, left_of};
 use yfaults::nearest::Search;
 use ylalr::{END, ERROR};
 use yparse::Session;
-use yparse::machine::StepKind;
+use yparse::machine::{Mode, StepKind};
 use ysymbols::{Grammar, Sym};
-use ytables::Tables;
 use yview::Page;
-use yview::reading::{
-    has_conflict, is_running, last_rule, last_state, name_of, token_ahead, upcoming_token,
-};
+use yview::reading::{last_rule, last_state, name_of, token_ahead, upcoming_token};
 
 /// The most entries that a stack has.
 const DEEPEST: usize = 1_000_000;
@@ -43,7 +40,7 @@ pub enum Condition {
 }
 
 /// Each condition by its word, with 0 where a name or a number has to follow.
-const WORDS: [(&str, Condition); 8] = [
+pub const WORDS: [(&str, Condition); 8] = [
     ("shift", Condition::Shift(0)),
     ("reduce", Condition::Reduce(0)),
     ("error", Condition::Error),
@@ -126,21 +123,6 @@ pub fn condition_of(session: &Session, tokens: usize, text: &str) -> Result<Cond
     }
 }
 
-/// The condition whose word is near to this one.
-pub fn condition_near<'a>(alloc: Global, word: &'a str) -> Made<Option<&'a str>> {
-    near_in(alloc, &WORDS, word)
-}
-
-/// Whether a symbol is of the kind that was wanted where this was refused.
-fn is_wanted(grammar: &Grammar, symbol: Sym, refusal: Refusal) -> bool {
-    match refusal {
-        Refusal::NoToken => grammar.is_token(symbol),
-        Refusal::NoInput => grammar.is_token(symbol) && symbol != END && symbol != ERROR,
-        Refusal::NoNonterminal => !grammar.is_token(symbol),
-        _ => true,
-    }
-}
-
 /// The symbol whose name is near to this one, of the kind that was wanted where this was refused.
 pub fn symbol_near<'a>(
     alloc: Global,
@@ -150,7 +132,13 @@ pub fn symbol_near<'a>(
 ) -> Made<Option<&'a str>> {
     let mut search = Search::new(name.as_bytes());
     for symbol in 0..grammar.symbols() {
-        if is_wanted(grammar, symbol, refusal) {
+        let is_wanted = match refusal {
+            Refusal::NoToken => grammar.is_token(symbol),
+            Refusal::NoInput => grammar.is_token(symbol) && symbol != END && symbol != ERROR,
+            Refusal::NoNonterminal => !grammar.is_token(symbol),
+            _ => true,
+        };
+        if is_wanted {
             search.offer(alloc, name_of(grammar, symbol).as_bytes())?;
         }
     }
@@ -158,39 +146,29 @@ pub fn symbol_near<'a>(
 }
 
 impl Condition {
-    /// Whether it is met by what was done or undone.
-    fn meets_kind(self, grammar: &Grammar, kind: StepKind) -> bool {
+    /// Whether it is met after a step or an undo of this kind: by that, or in the configuration.
+    pub fn is_met(self, session: &Session, kind: StepKind) -> bool {
+        let tables = session.tables();
         match (self, kind) {
             (Condition::Shift(wanted), StepKind::Shift(token)) => wanted == token,
             (Condition::Shift(wanted), StepKind::ShiftError) => wanted == ERROR,
             (Condition::Reduce(wanted), StepKind::Reduce(rule)) => wanted == rule,
-            (Condition::ReduceTo(left), StepKind::Reduce(rule)) => left_of(grammar, rule)
-                == Some(left),
+            (Condition::ReduceTo(left), StepKind::Reduce(rule)) => {
+                left_of(grammar_of(tables), rule) == Some(left)
+            }
             (Condition::Error, StepKind::Detect) => true,
             (Condition::Accept, StepKind::Accept) => true,
-            _ => false,
-        }
-    }
-
-    /// Whether it holds in the configuration.
-    fn holds_in(self, tables: &Tables, session: &Session) -> bool {
-        match self {
-            Condition::Conflict => {
-                is_running(session) && has_conflict(tables, session.state(), token_ahead(session))
+            (Condition::Conflict, _) => {
+                let conflict = conflict_of(tables, session.state(), token_ahead(session));
+                session.view().mode() == Mode::Running && conflict.is_some()
             }
-            Condition::State(state) => session.state() == state,
-            Condition::Token(place) => {
+            (Condition::State(state), _) => session.state() == state,
+            (Condition::Token(place), _) => {
                 session.view().rest_len() > 0 && upcoming_token(session, 0).1 == place
             }
-            Condition::Depth(depth) => session.view().stack_len() == depth,
+            (Condition::Depth(depth), _) => session.view().stack_len() == depth,
             _ => false,
         }
-    }
-
-    /// Whether it is met after a step or an undo of this kind.
-    pub fn is_met(self, session: &Session, kind: StepKind) -> bool {
-        let tables = session.tables();
-        self.meets_kind(grammar_of(tables), kind) || self.holds_in(tables, session)
     }
 
     /// Why the run stopped, or what never came.
@@ -208,11 +186,4 @@ impl Condition {
             Condition::Accept => write!(page, "acceptance"),
         };
     }
-}
-
-/// Which state and which token ahead have a conflict.
-pub fn put_cell<W: Write>(page: &mut Page<W>, session: &Session) {
-    let (state, token) = (session.state(), token_ahead(session));
-    let name = name_of(grammar_of(session.tables()), token);
-    let _ = write!(page, "state {state} on {name} has a conflict");
 }

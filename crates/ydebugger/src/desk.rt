@@ -1,6 +1,6 @@
 //! The loop over command lines.
 
-use crate::edits::{drop_next, insert, save};
+use crate::edits::{insert, put_edit, save};
 use crate::help::{put_candidates, put_unknown, show_help, verb_of};
 use crate::lines::{Came, LONGEST, next_line};
 use crate::moves::make_move;
@@ -20,7 +20,7 @@ use yinput::Parse;
 use yinput::source::Source;
 use yview::grammar_view::put_grammar;
 use yview::place_view::{put_stack, put_where};
-use yview::reading::{last_rule, states_of};
+use yview::reading::last_rule;
 use yview::{Page, Paint};
 
 /// Where a session takes place: whether a person sits at a terminal.
@@ -52,10 +52,6 @@ struct Desk<'a, F, W> {
 }
 
 impl<F: Files + AllocGlobal, W: Write> Desk<'_, F, W> {
-    fn alloc(&self) -> Global {
-        self.source.rt.alloc()
-    }
-
     /// The parse to be looked at.
     fn view(&mut self) -> View<'_, W> {
         View {
@@ -67,14 +63,14 @@ impl<F: Files + AllocGlobal, W: Write> Desk<'_, F, W> {
 
     /// Makes a move, which an empty line then repeats.
     fn go(&mut self, wanted: Move) -> Made<()> {
-        let (alloc, progress) = (self.alloc(), self.setting.terminal);
+        let (alloc, progress) = (self.source.rt.alloc(), self.setting.terminal);
         self.last = Some(wanted);
         make_move(alloc, &mut self.parse, &mut self.page, wanted, progress)
     }
 
     /// Makes the move that a command means.
     fn travel(&mut self, verb: Verb, text: &str) -> Made<()> {
-        match move_of(self.parse.session(), self.parse.tokens(), verb, text) {
+        match move_of(&self.parse.session, self.parse.tokens, verb, text) {
             Ok(wanted) => self.go(wanted),
             Err(Refusal::NoNumber) => {
                 put_refusal(&mut self.page, misused(verb));
@@ -89,12 +85,15 @@ impl<F: Files + AllocGlobal, W: Write> Desk<'_, F, W> {
 
     /// Changes the upcoming tokens, or writes them to a file.
     fn edit(&mut self, verb: Verb, text: &str) -> Made<()> {
-        let (alloc, page) = (self.alloc(), &mut self.page);
+        let (alloc, page) = (self.source.rt.alloc(), &mut self.page);
         let wants_word = verb != Verb::Drop;
         match verb {
             _ if wants_word == text.is_empty() => put_refusal(page, misused(verb)),
             Verb::Insert => return insert(alloc, &mut self.parse, page, text),
-            Verb::Drop => drop_next(&mut self.parse, page),
+            Verb::Drop => {
+                let made = self.parse.session.drop_next();
+                put_edit(page, &self.parse, made);
+            }
             verb => {
                 let over = verb == Verb::SaveOver;
                 save(self.source, &self.parse, page, text, over);
@@ -108,13 +107,13 @@ impl<F: Files + AllocGlobal, W: Write> Desk<'_, F, W> {
         let (parse, page) = (&self.parse, &mut self.page);
         match verb {
             Verb::Where => {
-                put_where(page, parse.session(), parse.tokens());
+                put_where(page, &parse.session, parse.tokens);
                 put_ahead(page, parse);
             }
-            Verb::Stack => put_stack(page, parse.session()),
+            Verb::Stack => put_stack(page, &parse.session),
             Verb::Upcoming => put_upcoming(page, parse),
             Verb::Expected => return self.view().show_expected(),
-            Verb::Grammar => put_grammar(page, parse.tables(), parse.lines()),
+            Verb::Grammar => put_grammar(page, parse.session.tables(), &parse.lines),
             Verb::Conflicts => return self.view().show_conflicts(),
             // These are answered before. Each stands here, so that a new command has its answer
             // or doesn't compile.
@@ -158,19 +157,15 @@ impl<F: Files + AllocGlobal, W: Write> Desk<'_, F, W> {
         Ok(Flow::GoesOn)
     }
 
-    /// Makes the last move again, where there was one.
-    fn repeat(&mut self) -> io::Result<()> {
-        if let Some(wanted) = self.last {
-            self.go(wanted)?;
-        }
-        Ok(())
-    }
-
-    /// Answers a line.
+    /// Answers a line; an empty one makes the last move again, where there was one.
     fn answer(&mut self, line: &str) -> io::Result<Flow> {
         let (word, text) = first_word(line);
         match verb_of(word) {
-            _ if word.is_empty() => self.repeat()?,
+            _ if word.is_empty() => {
+                if let Some(wanted) = self.last {
+                    self.go(wanted)?;
+                }
+            }
             Found::One(verb) => return self.obey(verb, text),
             Found::Many => put_candidates(&mut self.page, word),
             Found::Nothing => put_unknown(self.source.rt.alloc(), &mut self.page, word)?,
@@ -186,7 +181,7 @@ impl<F: Files + AllocGlobal, W: Write> Desk<'_, F, W> {
         };
         match self.answer(line) {
             Err(error) if error.kind() == ErrorKind::OutOfMemory => {
-                if self.page.column() > 0 {
+                if self.page.column > 0 {
                     self.page.end();
                 }
                 put_refusal(&mut self.page, Refusal::Memory);
@@ -204,7 +199,7 @@ impl<F: Files + AllocGlobal, W: Write> Desk<'_, F, W> {
         self.page.flush()?;
         let came = next_line(reader, line)?;
         if came != Came::End {
-            self.page.fresh();
+            self.page.column = 0;
         }
         match came {
             Came::End => {
@@ -226,32 +221,15 @@ impl<F: Files + AllocGlobal, W: Write> Desk<'_, F, W> {
         if !self.setting.terminal {
             return;
         }
-        let (tables, page) = (self.parse.tables(), &mut self.page);
+        let (tables, page) = (self.parse.session.tables(), &mut self.page);
         let counts = tables.conflicts();
         let conflicts = counts.shift_reduce.saturating_add(counts.reduce_reduce);
         page.count(last_rule(grammar_of(tables)), "rule, ", "rules, ");
-        page.count(states_of(tables), "state, ", "states, ");
+        page.count(tables.automaton().states(), "state, ", "states, ");
         page.count(conflicts as usize, "conflict, ", "conflicts, ");
-        page.count(self.parse.tokens(), "token; ", "tokens; ");
+        page.count(self.parse.tokens, "token; ", "tokens; ");
         page.line("type help");
     }
-}
-
-/// Greets, and answers lines up to `quit` or the end of the input.
-fn serve_all<F: Files + AllocGlobal, R: Read + Drop, W: Write>(
-    desk: &mut Desk<'_, F, W>,
-    reader: R,
-) -> io::Result<()> {
-    let alloc = desk.alloc();
-    let mut line = Vec::with_capacity(alloc, LONGEST)?;
-    let mut reader = BufReader::new(alloc, reader)?;
-    desk.greet();
-    for _ in 0..u64::MAX {
-        if desk.turn(&mut reader, &mut line)? == Flow::Quits {
-            break;
-        }
-    }
-    desk.page.flush()
 }
 
 /// A session over a parse: command lines from the reader, what they show to the writer, up to
@@ -272,5 +250,14 @@ pub fn debug<F: Files + AllocGlobal, R: Read + Drop, W: Write + Drop>(
         page: Page::new(writer, setting.colour),
         last: None,
     };
-    serve_all(&mut desk, reader)
+    let alloc = source.rt.alloc();
+    let mut line = Vec::with_capacity(alloc, LONGEST)?;
+    let mut reader = BufReader::new(alloc, reader)?;
+    desk.greet();
+    for _ in 0..u64::MAX {
+        if desk.turn(&mut reader, &mut line)? == Flow::Quits {
+            break;
+        }
+    }
+    desk.page.flush()
 }

@@ -15,8 +15,8 @@ use yview::page::Page;
 use yview::step_line::{StepLine, put_made};
 
 /// Writes an edit, or why it wasn't made.
-fn put_edit<W: Write>(page: &mut Page<W>, parse: &Parse, made: Result<StepKind, StepFault>) {
-    let session = parse.session();
+pub fn put_edit<W: Write>(page: &mut Page<W>, parse: &Parse, made: Result<StepKind, StepFault>) {
+    let session = &parse.session;
     match made {
         Ok(kind) => put_made(page, session, StepLine::of(session, kind, false)),
         Err(fault) => page.line(edit_words(fault, session.view().mode())),
@@ -39,12 +39,6 @@ pub fn insert<W: Write>(
         Err(fault) => put_edit(page, parse, Err(fault)),
     }
     Ok(())
-}
-
-/// Takes out the first of the upcoming tokens.
-pub fn drop_next<W: Write>(parse: &mut Parse, page: &mut Page<W>) {
-    let made = parse.drop_next();
-    put_edit(page, parse, made);
 }
 
 /// Writes the tokens, edits included, to a tokens file. Without `over` there must be no such file.

@@ -52,20 +52,17 @@ fn put_usage<W: Write>(page: &mut Page<W>, verb: Verb) {
     page.line(verb.about());
 }
 
-/// All commands.
-fn put_commands<W: Write>(page: &mut Page<W>) {
-    for (_, verb) in &VERBS {
-        put_usage(page, *verb);
-    }
-    page.line("A beginning of a word is enough where no other word begins so;");
-    page.line("s, b, r and w are step, back, run and where.");
-    page.line("An empty line repeats the last move.");
-}
-
 /// Help on all commands, or on one.
 pub fn show_help<W: Write>(alloc: Global, page: &mut Page<W>, text: &str) -> Made<()> {
     match verb_of(text) {
-        _ if text.is_empty() => put_commands(page),
+        _ if text.is_empty() => {
+            for (_, verb) in &VERBS {
+                put_usage(page, *verb);
+            }
+            page.line("A beginning of a word is enough where no other word begins so;");
+            page.line("s, b, r and w are step, back, run and where.");
+            page.line("An empty line repeats the last move.");
+        }
         Found::One(verb) => {
             put_usage(page, verb);
             if !verb.more().is_empty() {

@@ -5,7 +5,6 @@ use yexplain::reads::grammar_of;
 use yinput::Parse;
 use yparse::Session;
 use yparse::machine::StepKind;
-use ysymbols::Grammar;
 use yview::page::Page;
 use yview::reading::{name_of, upcoming_token};
 use yview::step_line::{kind_word, put_rule_number, put_subject};
@@ -13,8 +12,14 @@ use yview::step_line::{kind_word, put_rule_number, put_subject};
 /// How many steps are shown unless told otherwise.
 pub const SOME_STEPS: usize = 20;
 
-/// What a step or an edit that stands is about.
-fn put_about<W: Write>(page: &mut Page<W>, grammar: &Grammar, kind: StepKind) {
+/// A step or an edit that stands, the first one at 0, and what it is about.
+fn put_past<W: Write>(page: &mut Page<W>, session: &Session, index: usize) {
+    let Some(kind) = session.kind_at(index) else {
+        return;
+    };
+    page.number_to(7, index.saturating_add(1));
+    page.put("  ");
+    page.put(kind_word(kind));
     match kind {
         StepKind::Accept | StepKind::Fail => {}
         StepKind::Detect => {
@@ -23,27 +28,16 @@ fn put_about<W: Write>(page: &mut Page<W>, grammar: &Grammar, kind: StepKind) {
         }
         kind => {
             page.tab(18);
-            put_subject(page, grammar, kind, ylalr::END);
+            put_subject(page, grammar_of(session.tables()), kind, ylalr::END);
         }
     }
-}
-
-/// A step or an edit that stands, the first one at 0.
-fn put_past<W: Write>(page: &mut Page<W>, session: &Session, index: usize) {
-    let Some(kind) = session.kind_at(index) else {
-        return;
-    };
-    page.number_to(7, index.saturating_add(1));
-    page.put("  ");
-    page.put(kind_word(kind));
-    put_about(page, grammar_of(session.tables()), kind);
     put_rule_number(page, kind);
     page.end();
 }
 
 /// The last steps and edits, so many at most.
 pub fn put_history<W: Write>(page: &mut Page<W>, parse: &Parse, most: usize) {
-    let position = parse.session().position();
+    let position = parse.session.position();
     let from = position.saturating_sub(most);
     if position == 0 {
         page.line("Nothing was done yet.");
@@ -53,25 +47,19 @@ pub fn put_history<W: Write>(page: &mut Page<W>, parse: &Parse, most: usize) {
         page.line("   ..");
     }
     for index in from..position {
-        put_past(page, parse.session(), index);
+        put_past(page, &parse.session, index);
     }
 }
 
-/// The tokens that were read and shifted or discarded.
-fn put_read<W: Write>(page: &mut Page<W>, parse: &Parse) {
-    let session = parse.session();
-    let grammar = grammar_of(session.tables());
+/// The whole input with its edits, in the form of a tokens file: the tokens that were read and
+/// shifted or discarded, and then the upcoming ones.
+pub fn put_tokens<W: Write>(page: &mut Page<W>, parse: &Parse) {
+    let (grammar, session) = (grammar_of(parse.session.tables()), &parse.session);
     for index in 0..session.position() {
         if let Some(StepKind::Shift(token) | StepKind::Discard(token)) = session.kind_at(index) {
             page.word(0, name_of(grammar, token));
         }
     }
-}
-
-/// The whole input with its edits, in the form of a tokens file.
-pub fn put_tokens<W: Write>(page: &mut Page<W>, parse: &Parse) {
-    let (grammar, session) = (grammar_of(parse.tables()), parse.session());
-    put_read(page, parse);
     for index in 0..session.view().rest_len() {
         let (token, _) = upcoming_token(session, index);
         page.word(0, name_of(grammar, token));

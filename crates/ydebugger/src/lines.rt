@@ -16,16 +16,13 @@ pub enum Came {
     End,
 }
 
-/// Reads a line with its newline, or the beginning of a long one, and says how many bytes it has.
-fn read_line<R: Read>(reader: &mut BufReader<R>, line: &mut Vec<u8>) -> io::Result<usize> {
-    line.clear();
-    let mut first = reader.by_ref().take(LONGEST as u64);
-    first.read_until(b'\n', line)
-}
-
 /// Reads the next line without its newline.
 pub fn next_line<R: Read>(reader: &mut BufReader<R>, line: &mut Vec<u8>) -> io::Result<Came> {
-    let read = read_line(reader, line)?;
+    line.clear();
+    let read = {
+        let mut first = reader.by_ref().take(LONGEST as u64);
+        first.read_until(b'\n', line)?
+    };
     if line.last() == Some(&b'\n') {
         let _ = line.pop();
         return Ok(Came::Line);

@@ -1,15 +1,16 @@
 //! Moves: steps forward and back, and to where a condition holds.
 
-use crate::condition::{Condition, put_cell};
+use crate::condition::Condition;
 use crate::refusal::fault_words;
 use crate::text::put_ahead;
 use crate::travel::{LAST, Move, tells_each, until_of};
 use std::alloc::Global;
 use std::io::Write;
-use yexplain::reads::Made;
+use yexplain::reads::{Made, grammar_of};
 use yinput::Parse;
 use yparse::machine::{StepFault, StepKind};
 use yview::page::Page;
+use yview::reading::{name_of, token_ahead};
 use yview::step_line::{StepLine, put_made};
 
 /// More steps than can be made.
@@ -43,22 +44,12 @@ struct Telling {
 }
 
 impl Telling {
-    /// Nothing was written yet.
-    fn new(alloc: Global, each: bool, progress: bool) -> Made<Telling> {
-        Ok(Telling {
-            each,
-            progress,
-            made: 0,
-            tail: Vec::with_capacity(alloc, KEPT)?,
-        })
-    }
-
     /// Writes what was just done or undone, or keeps it for the end.
     fn tell<W: Write>(&mut self, page: &mut Page<W>, parse: &Parse, kind: StepKind, undone: bool) {
-        let line = StepLine::of(parse.session(), kind, undone);
+        let line = StepLine::of(&parse.session, kind, undone);
         self.made = self.made.saturating_add(1);
         if self.each {
-            put_made(page, parse.session(), line);
+            put_made(page, &parse.session, line);
             return;
         }
         if self.tail.len() >= KEPT {
@@ -82,7 +73,7 @@ impl Telling {
             page.line("   ..");
         }
         for line in &self.tail {
-            put_made(page, parse.session(), *line);
+            put_made(page, &parse.session, *line);
         }
     }
 }
@@ -109,16 +100,7 @@ fn course_of(position: usize, wanted: Move) -> Course {
     Course { back, most, until }
 }
 
-/// Makes a step, or undoes one; or says why none is made.
-fn made(parse: &mut Parse, back: bool) -> Result<StepKind, End> {
-    if back {
-        parse.back().map_err(|_| End::AtStart)
-    } else {
-        parse.step().map_err(End::Refused)
-    }
-}
-
-/// Makes the steps of a course, up to a fault of the page.
+/// Makes the steps of a course, or undoes them, up to a fault of the page.
 fn go<W: Write>(
     parse: &mut Parse,
     page: &mut Page<W>,
@@ -126,18 +108,25 @@ fn go<W: Write>(
     course: Course,
 ) -> End {
     for _ in 0..course.most {
-        match made(parse, course.back) {
-            Err(end) => return end,
-            Ok(kind) => {
-                telling.tell(page, parse, kind, course.back);
-                let session = parse.session();
-                if course.until.map_or(false, |it| it.is_met(session, kind)) {
-                    return End::Met;
-                }
-                if page.checked().is_err() {
-                    break;
-                }
+        let kind = if course.back {
+            match parse.session.back() {
+                Ok(kind) => kind,
+                Err(_) => return End::AtStart,
             }
+        } else {
+            match parse.session.step() {
+                Ok(kind) => kind,
+                Err(fault) => return End::Refused(fault),
+            }
+        };
+        telling.tell(page, parse, kind, course.back);
+        if let Some(until) = course.until {
+            if until.is_met(&parse.session, kind) {
+                return End::Met;
+            }
+        }
+        if page.checked().is_err() {
+            break;
         }
     }
     End::Done
@@ -147,16 +136,18 @@ fn go<W: Write>(
 fn put_until<W: Write>(page: &mut Page<W>, parse: &Parse, until: Condition, end: End) {
     match (end, until) {
         (End::Met, Condition::Conflict) => {
-            page.put("stopped: ");
-            put_cell(page, parse.session());
+            let session = &parse.session;
+            let (state, token) = (session.state(), token_ahead(session));
+            let name = name_of(grammar_of(session.tables()), token);
+            let _ = write!(page, "stopped: state {state} on {name} has a conflict");
         }
         (End::Met, until) => {
             page.put("stopped: ");
-            until.put(page, parse.session());
+            until.put(page, &parse.session);
         }
         (_, until) => {
             page.put("No ");
-            until.put(page, parse.session());
+            until.put(page, &parse.session);
             page.put(" came on the way.");
         }
     }
@@ -170,7 +161,7 @@ fn put_end<W: Write>(page: &mut Page<W>, parse: &Parse, wanted: Move, end: End, 
     }
     match end {
         End::Refused(StepFault::Halted) if made > 0 && !matches!(wanted, Move::To(_)) => {}
-        End::Refused(fault) => page.line(fault_words(fault, parse.session().view().mode())),
+        End::Refused(fault) => page.line(fault_words(fault, parse.session.view().mode())),
         End::AtStart if made > 0 => {}
         End::AtStart => page.line("The parse is at its start."),
         End::Done if made == 0 => page.line("The parse is at that position already."),
@@ -186,8 +177,13 @@ pub fn make_move<W: Write>(
     wanted: Move,
     progress: bool,
 ) -> Made<()> {
-    let mut telling = Telling::new(alloc, tells_each(wanted), progress)?;
-    let course = course_of(parse.session().position(), wanted);
+    let mut telling = Telling {
+        each: tells_each(wanted),
+        progress,
+        made: 0,
+        tail: Vec::with_capacity(alloc, KEPT)?,
+    };
+    let course = course_of(parse.session.position(), wanted);
     let end = go(parse, page, &mut telling, course);
     telling.finish(page, parse);
     put_end(page, parse, wanted, end, telling.made);

@@ -45,19 +45,6 @@ impl From<AllocError> for Refusal {
 }
 
 impl Refusal {
-    /// Writes what it says.
-    fn put<W: Write>(self, page: &mut Page<W>) {
-        let _ = match self {
-            Refusal::Usage(usage) => write!(page, "Usage: {usage}"),
-            Refusal::Range(what, from, to) => {
-                let (from, to) = (Grouped(from), Grouped(to));
-                write!(page, "That is out of range: {what} are {from} to {to}.")
-            }
-            Refusal::None(what) => write!(page, "There are no {what}."),
-            _ => write!(page, "{}", self.words()),
-        };
-    }
-
     /// What it says where it has no name and no number.
     fn words(self) -> &'static str {
         match self {
@@ -99,7 +86,15 @@ pub fn misused(verb: Verb) -> Refusal {
 /// Writes a refusal.
 pub fn put_refusal<W: Write>(page: &mut Page<W>, refusal: Refusal) {
     page.paint(Paint::Bad);
-    refusal.put(page);
+    let _ = match refusal {
+        Refusal::Usage(usage) => write!(page, "Usage: {usage}"),
+        Refusal::Range(what, from, to) => {
+            let (from, to) = (Grouped(from), Grouped(to));
+            write!(page, "That is out of range: {what} are {from} to {to}.")
+        }
+        Refusal::None(what) => write!(page, "There are no {what}."),
+        _ => write!(page, "{}", refusal.words()),
+    };
     page.paint(Paint::Plain);
     page.end();
 }

@@ -8,7 +8,6 @@ use yexplain::reads::grammar_of;
 use yinput::Parse;
 use yinput::source::Source;
 use yparse::machine::{StepFault, StepKind};
-use ysymbols::Grammar;
 use yview::page::Page;
 use yview::reading::name_of;
 
@@ -21,25 +20,22 @@ enum Stopped {
     NoToken,
 }
 
-/// Makes one step or edit of the old parse in the new one.
-fn redo_one(parse: &mut Parse, old: &Grammar, kind: StepKind) -> Result<(), Stopped> {
-    let made = match kind {
-        StepKind::Insert(token) => parse.insert(name_of(old, token).as_bytes()),
-        StepKind::Drop(_) => parse.drop_next().map(Some),
-        _ => parse.step().map(Some),
-    };
-    match made {
-        Ok(Some(_)) => Ok(()),
-        Ok(None) => Err(Stopped::NoToken),
-        Err(fault) => Err(Stopped::Fault(fault)),
-    }
-}
-
 /// Makes the steps and edits of the old parse in the new one.
 fn redo(parse: &mut Parse, old: &Parse) -> Result<(), Stopped> {
-    for index in 0..old.session().position() {
-        if let Some(kind) = old.session().kind_at(index) {
-            redo_one(parse, grammar_of(old.tables()), kind)?;
+    let grammar = grammar_of(old.session.tables());
+    for index in 0..old.session.position() {
+        let Some(kind) = old.session.kind_at(index) else {
+            continue;
+        };
+        let made = match kind {
+            StepKind::Insert(token) => parse.insert(name_of(grammar, token).as_bytes()),
+            StepKind::Drop(_) => parse.session.drop_next().map(Some),
+            _ => parse.session.step().map(Some),
+        };
+        match made {
+            Ok(Some(_)) => {}
+            Ok(None) => return Err(Stopped::NoToken),
+            Err(fault) => return Err(Stopped::Fault(fault)),
         }
     }
     Ok(())
@@ -51,11 +47,11 @@ fn replace<W: Write>(page: &mut Page<W>, parse: &mut Parse, fresh: Parse) {
     let mut fresh = fresh;
     let why = match redo(&mut fresh, parse) {
         Err(Stopped::Fault(StepFault::Memory)) => return put_refusal(page, Refusal::Memory),
-        Err(Stopped::Fault(fault)) => Some(fault_words(fault, fresh.session().view().mode())),
+        Err(Stopped::Fault(fault)) => Some(fault_words(fault, fresh.session.view().mode())),
         Err(Stopped::NoToken) => Some("The grammar has no longer the token that was inserted."),
         Ok(()) => None,
     };
-    let (wanted, position) = (parse.session().position(), fresh.session().position());
+    let (wanted, position) = (parse.session.position(), fresh.session.position());
     let _ = write!(
         page,
         "Both files are read again; the position is {position}"

@@ -1,13 +1,11 @@
 //! Commands that show something.
 
-use crate::condition::{
-    condition_near, is_digits, number_in, symbol_named, symbol_near, token_named,
-};
+use crate::condition::{WORDS, is_digits, number_in, symbol_named, symbol_near, token_named};
 use crate::history::{SOME_STEPS, put_history};
 use crate::refusal::{Refusal, misused, put_refusal};
 use crate::travel::LAST;
 use crate::verb::Verb;
-use crate::words::first_word;
+use crate::words::{first_word, near_in};
 use std::alloc::Global;
 use std::io::Write;
 use yexplain::reads::{Made, grammar_of};
@@ -113,9 +111,9 @@ impl<W: Write> View<'_, W> {
     pub fn refuse_name(&mut self, name: &str, refusal: Refusal) -> Made<()> {
         let parse = self.parse;
         let near = match refusal {
-            Refusal::NoCondition => condition_near(self.alloc, name)?,
+            Refusal::NoCondition => near_in(self.alloc, &WORDS, name)?,
             Refusal::NoToken | Refusal::NoInput | Refusal::NoNonterminal | Refusal::NoSymbol => {
-                symbol_near(self.alloc, grammar_of(parse.tables()), name, refusal)?
+                symbol_near(self.alloc, grammar_of(parse.session.tables()), name, refusal)?
             }
             _ => None,
         };
@@ -129,7 +127,7 @@ impl<W: Write> View<'_, W> {
     /// A state, that of the stack where none is named.
     pub fn show_state(&mut self, text: &str) {
         let parse = self.parse;
-        let (tables, state) = (parse.tables(), parse.session().state());
+        let (tables, state) = (parse.session.tables(), parse.session.state());
         match number_in(text, "states", 0, last_state(tables)) {
             _ if text.is_empty() => put_state(self.page, tables, state),
             Ok(state) => put_state(self.page, tables, state),
@@ -143,9 +141,9 @@ impl<W: Write> View<'_, W> {
         let parse = self.parse;
         let (first, name) = first_word(text);
         if !is_digits(first) {
-            return self.show_cell(parse.session().state(), text);
+            return self.show_cell(parse.session.state(), text);
         }
-        match number_in(first, "states", 0, last_state(parse.tables())) {
+        match number_in(first, "states", 0, last_state(parse.session.tables())) {
             Ok(state) => self.show_cell(state, name),
             Err(refusal) => {
                 self.refuse(Verb::Why, refusal);
@@ -158,10 +156,10 @@ impl<W: Write> View<'_, W> {
     /// named.
     fn show_cell(&mut self, state: usize, name: &str) -> Made<()> {
         let parse = self.parse;
-        let session = parse.session();
+        let session = &parse.session;
         let asked = Question {
             tables: session.tables(),
-            lines: parse.lines(),
+            lines: &parse.lines,
             state,
             token: token_ahead(session),
         };
@@ -179,7 +177,7 @@ impl<W: Write> View<'_, W> {
     /// The tokens that can come here; none where the parse isn't running.
     pub fn show_expected(&mut self) -> Made<()> {
         let parse = self.parse;
-        let (session, tables) = (parse.session(), parse.tables());
+        let (session, tables) = (&parse.session, parse.session.tables());
         let none = match session.view().mode() {
             Mode::Running => {
                 let states = stack_states(self.alloc, session)?;
@@ -198,7 +196,7 @@ impl<W: Write> View<'_, W> {
     /// The conflicts of the tables by kinds: each with a cell, the first 20 explained.
     pub fn show_conflicts(&mut self) -> Made<()> {
         let parse = self.parse;
-        let (tables, lines) = (parse.tables(), parse.lines());
+        let (tables, lines) = (parse.session.tables(), &parse.lines);
         let found = Conflicts::new(self.alloc, tables)?;
         if found.cells == 0 {
             self.page.line("The tables have no conflict.");
@@ -217,7 +215,7 @@ impl<W: Write> View<'_, W> {
     /// A rule.
     pub fn show_rule(&mut self, text: &str) {
         let parse = self.parse;
-        let (grammar, lines) = (grammar_of(parse.tables()), parse.lines());
+        let (grammar, lines) = (grammar_of(parse.session.tables()), &parse.lines);
         match number_in(text, "rules", 0, last_rule(grammar)) {
             Ok(rule) => Rules { grammar, lines }.put_one(self.page, rule),
             Err(refusal) => self.refuse(Verb::Rule, refusal),
@@ -227,9 +225,9 @@ impl<W: Write> View<'_, W> {
     /// A symbol.
     pub fn show_symbol(&mut self, text: &str) -> Made<()> {
         let parse = self.parse;
-        match symbol_named(parse.session(), text) {
+        match symbol_named(&parse.session, text) {
             _ if text.is_empty() => put_refusal(self.page, misused(Verb::Symbol)),
-            Some(symbol) => put_symbol(self.page, parse.tables(), parse.lines(), symbol),
+            Some(symbol) => put_symbol(self.page, parse.session.tables(), &parse.lines, symbol),
             None => return self.refuse_name(text, Refusal::NoSymbol),
         }
         Ok(())
@@ -238,10 +236,10 @@ impl<W: Write> View<'_, W> {
     /// The tree of an entry of the stack.
     fn show_entry(&mut self, entry: &str, most: usize) -> Made<()> {
         let parse = self.parse;
-        let entries = parse.session().view().stack_len();
+        let entries = parse.session.view().stack_len();
         match number_in(entry, "entries", 1, entries) {
             _ if entries == 0 => self.page.line("The stack is empty: there is no tree."),
-            Ok(entry) => return put_tree(self.alloc, self.page, parse.session(), entry, most),
+            Ok(entry) => return put_tree(self.alloc, self.page, &parse.session, entry, most),
             Err(refusal) => self.refuse(Verb::Tree, refusal),
         }
         Ok(())
@@ -251,8 +249,8 @@ impl<W: Write> View<'_, W> {
     pub fn show_tree(&mut self, text: &str) -> Made<()> {
         let parse = self.parse;
         match first_word(text) {
-            ("", _) => put_trees(self.alloc, self.page, parse.session(), SOME_LINES),
-            ("all", "") => put_trees(self.alloc, self.page, parse.session(), usize::MAX),
+            ("", _) => put_trees(self.alloc, self.page, &parse.session, SOME_LINES),
+            ("all", "") => put_trees(self.alloc, self.page, &parse.session, usize::MAX),
             (entry, "") => self.show_entry(entry, SOME_LINES),
             (entry, "all") => self.show_entry(entry, usize::MAX),
             _ => {
@@ -275,14 +273,14 @@ impl<W: Write> View<'_, W> {
             }
         };
         if text == "all" {
-            let size = size_of_derivation(self.alloc, parse.session())?;
+            let size = size_of_derivation(self.alloc, &parse.session)?;
             if size > LARGE {
                 let words = "bytes; derivation all! writes them.";
                 let _ = writeln!(self.page, "That would be {size} {words}");
                 return Ok(());
             }
         }
-        put_derivation(self.alloc, self.page, parse.session(), most)
+        put_derivation(self.alloc, self.page, &parse.session, most)
     }
 
     /// The last steps and edits.

@@ -6,7 +6,7 @@ use crate::sets::Source;
 use crate::ways::{Ways, before_dot};
 use indexmap::IndexMap;
 use std::alloc::Global;
-use yexplain::reads::{Made, is_complete, items_of, left_of, set};
+use yexplain::reads::{Made, grammar_of, is_complete, items_of, left_of, set};
 use ylalr::{END, ERROR, Item, token_count};
 use ysymbols::{Sym, let_go};
 use ytables::Action;
@@ -60,8 +60,8 @@ pub fn state_key(state: usize) -> Key {
 impl<'a> Search<'a> {
     /// A search in tables for inputs without the tokens that are marked, which is still to be run.
     pub fn new(alloc: Global, ways: Ways<'a>, absent: &'a [bool]) -> Made<Search<'a>> {
-        let tokens = token_count(ways.grammar());
-        let states = ways.automaton().states();
+        let tokens = token_count(grammar_of(ways.tables));
+        let states = ways.tables.automaton().states();
         let mut rows = Rows::new(alloc, tokens);
         let inputs = rows.make_set()?;
         Ok(Search {
@@ -93,7 +93,7 @@ impl<'a> Search<'a> {
     /// Makes the set of the tokens at which a state reduces a rule.
     fn make_mask(&mut self, state: usize, rule: usize) -> Made<usize> {
         let mask = self.rows.make_set()?;
-        let tokens = token_count(self.ways.grammar());
+        let tokens = token_count(grammar_of(self.ways.tables));
         self.rows.spend(tokens);
         for token in 0..tokens {
             let reduces = self.ways.action(state, token) == Action::Reduce(rule);
@@ -108,7 +108,7 @@ impl<'a> Search<'a> {
     /// Puts what an item of a state says, where it is complete: an empty rule leaves the token
     /// ahead.
     fn put_item(&mut self, state: usize, item: Item) -> Made<()> {
-        let grammar = self.ways.grammar();
+        let grammar = grammar_of(self.ways.tables);
         if !is_complete(grammar, item) {
             return Ok(());
         }
@@ -135,7 +135,7 @@ impl<'a> Search<'a> {
     /// Makes the sets of the tokens of an input, and puts what is known from the start.
     pub fn begin(&mut self) -> Made<()> {
         let inputs = self.inputs;
-        for token in 0..token_count(self.ways.grammar()) {
+        for token in 0..token_count(grammar_of(self.ways.tables)) {
             let alone = self.rows.make_set()?;
             self.alone.push(alone)?;
             if can_stand(self.absent, token) {
@@ -143,7 +143,7 @@ impl<'a> Search<'a> {
                 self.rows.sets.add(inputs, token);
             }
         }
-        let automaton = self.ways.automaton();
+        let automaton = self.ways.tables.automaton();
         for state in 0..automaton.states() {
             if self.rows.has_steps() {
                 for item in items_of(automaton, state) {
@@ -166,7 +166,7 @@ impl<'a> Search<'a> {
     /// The row of what is after the dot of an item, with a token ahead before; of an item with its
     /// dot at 0 that of the goto of its left side.
     pub fn key_of(&self, state: usize, item: Item, first: Sym) -> Option<Key> {
-        let grammar = self.ways.grammar();
+        let grammar = grammar_of(self.ways.tables);
         match before_dot(grammar, item) {
             None => {
                 let left = left_of(grammar, item.rule)?;

@@ -9,7 +9,7 @@
 use crate::rows::{Key, Level, Part, Spot, Taken};
 use crate::search::{Detected, Search, state_key};
 use crate::sets::Source;
-use yexplain::reads::{Made, action_of, is_complete};
+use yexplain::reads::{Made, action_of, grammar_of, is_complete};
 use ylalr::{Item, token_count};
 use ysymbols::Sym;
 use ytables::Action;
@@ -52,7 +52,7 @@ impl Search<'_> {
         first: Option<Sym>,
     ) -> Made<()> {
         let symbol = self.ways.moves.symbol(state);
-        let is_token = self.ways.grammar().is_token(symbol);
+        let is_token = grammar_of(self.ways.tables).is_token(symbol);
         let rest = Item {
             rule: item.rule,
             dot: item.dot.saturating_sub(1),
@@ -155,7 +155,7 @@ impl Search<'_> {
             rule: item.rule,
             dot: item.dot.saturating_add(1),
         };
-        if !is_complete(self.ways.grammar(), rest) {
+        if !is_complete(grammar_of(self.ways.tables), rest) {
             return self.join_all(key, (row, level), Spot::Rest(to, rest));
         }
         let mask = self.masks.get(&(to, rest.rule)).copied();
@@ -201,7 +201,7 @@ impl Search<'_> {
     /// Goes on from a state: over the tokens ahead, where they aren't errors, which are noted, and
     /// over its nonterminals.
     fn leave_state(&mut self, (row, level): (usize, Level), state: usize) -> Made<()> {
-        let (tokens, inputs, cost) = (token_count(self.ways.grammar()), self.inputs, level.cost);
+        let (tokens, inputs, cost) = (token_count(grammar_of(self.ways.tables)), self.inputs, level.cost);
         self.rows.spend(tokens);
         for token in 0..tokens {
             if !self.rows.sets.has(level.at, token) {

@@ -116,18 +116,6 @@ impl<'a> Ways<'a> {
         })
     }
 
-    /// The automaton.
-    pub fn automaton(&self) -> &'a Automaton {
-        let tables = self.tables;
-        tables.automaton()
-    }
-
-    /// The grammar.
-    pub fn grammar(&self) -> &'a Grammar {
-        let tables = self.tables;
-        tables.automaton().grammar()
-    }
-
     /// What is done in a state with a token of an input ahead.
     pub fn action(&self, state: usize, token: Sym) -> Action {
         if token == ERROR {

@@ -46,7 +46,7 @@ fn places_of(
     count: usize,
 ) -> Made<Vec<(usize, usize)>> {
     let mut places = Vec::new(alloc);
-    let Some(text) = parse.text() else {
+    let Some(text) = &parse.text else {
         return Ok(places);
     };
     let mut spots = Spots::new(&text.bytes);
@@ -60,7 +60,7 @@ fn places_of(
 impl Input {
     /// The tokens around the steps of a record, at the end of which the parse stands.
     pub fn new(alloc: Global, parse: &Parse, record: &Record) -> Made<Input> {
-        let session = parse.session();
+        let session = &parse.session;
         let mut taken: usize = 0;
         for index in 0..record.start.position {
             let is_taken = taken_at(session, index).is_some();
@@ -79,7 +79,7 @@ impl Input {
             symbols.push(upcoming_token(session, index).0)?;
         }
         Ok(Input {
-            count: parse.tokens(),
+            count: parse.tokens,
             taken,
             skipped,
             places: places_of(alloc, parse, skipped, symbols.len())?,

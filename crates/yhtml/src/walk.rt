@@ -6,9 +6,9 @@ use std::alloc::Global;
 use std::io::{self, ErrorKind};
 use yexplain::reads::Made;
 use yinput::Parse;
-use yparse::machine::{StepFault, StepKind};
+use yparse::machine::{Mode, StepFault, StepKind};
 use ysymbols::{Sym, let_go};
-use yview::reading::{is_running, token_ahead};
+use yview::reading::token_ahead;
 
 /// The most steps that a page shows.
 pub const MOST_STEPS: usize = 20_000;
@@ -57,7 +57,7 @@ struct Walk<'a> {
 
 /// A step, where one can be made.
 fn step(parse: &mut Parse) -> io::Result<Option<StepKind>> {
-    match parse.step() {
+    match parse.session.step() {
         Ok(kind) => Ok(Some(kind)),
         Err(StepFault::Memory) => Err(io::Error::from(ErrorKind::OutOfMemory)),
         Err(_) => Ok(None),
@@ -67,9 +67,9 @@ fn step(parse: &mut Parse) -> io::Result<Option<StepKind>> {
 impl Walk<'_> {
     /// Notes the cell that says what is done next.
     fn note_cell(&mut self) -> Made<()> {
-        let session = self.parse.session();
+        let session = &self.parse.session;
         let mut number = None;
-        if is_running(session) {
+        if session.view().mode() == Mode::Running {
             let cell = (session.state(), token_ahead(session));
             number = Some(self.trail.cells.insert_full(cell)?.0);
         }
@@ -82,7 +82,7 @@ impl Walk<'_> {
         let Some(kind) = step(self.parse)? else {
             return Ok(false);
         };
-        let state = self.parse.session().state();
+        let state = self.parse.session.state();
         self.trail.record.note(kind, state)?;
         self.note_cell()?;
         Ok(true)
@@ -91,7 +91,7 @@ impl Walk<'_> {
 
 /// Makes the steps that are wanted from where a parse stands.
 fn walk_on(alloc: Global, parse: &mut Parse, most: usize) -> io::Result<Walked> {
-    let start = Start::of(alloc, parse.session())?;
+    let start = Start::of(alloc, &parse.session)?;
     let mut trail = Trail {
         record: Record::new(alloc, start),
         cells: IndexSet::new(alloc),
@@ -120,7 +120,7 @@ pub fn walk_part(alloc: Global, parse: &mut Parse, part: Part) -> io::Result<Wal
             break;
         }
     }
-    let position = parse.session().position();
+    let position = parse.session.position();
     if position < part.from {
         return Ok(Walked::Short(position));
     }

@@ -28,18 +28,6 @@ impl Drop for Wanted {
     }
 }
 
-impl Wanted {
-    /// Puts a token where what is known of it belongs.
-    fn note(&mut self, token: Sym, outlook: Outlook) -> Made<()> {
-        match outlook {
-            Outlook::Expected => self.can.push(token)?,
-            Outlook::Unexpected => {}
-            Outlook::Untold => self.unknown.push(token)?,
-        }
-        Ok(())
-    }
-}
-
 /// The tokens that can come over these states, the first state of all at the bottom, `error` not
 /// among them. The trials make so many reductions at most, and those that they make are taken from
 /// that number.
@@ -49,8 +37,7 @@ pub fn expected_within(
     states: &[usize],
     left: &mut usize,
 ) -> Made<Wanted> {
-    let (can, unknown) = (Vec::new(alloc), Vec::new(alloc));
-    let mut wanted = Wanted { can, unknown };
+    let (mut can, mut unknown) = (Vec::new(alloc), Vec::new(alloc));
     for token in 0..token_count(grammar_of(tables)) {
         // one reduction more shows that there are too many
         let most = MOST_REDUCTIONS.min(*left).saturating_add(1);
@@ -60,9 +47,13 @@ pub fn expected_within(
             reductions,
         } = tried;
         *left = left.saturating_sub(reductions);
-        wanted.note(token, outlook)?;
+        match outlook {
+            Outlook::Expected => can.push(token)?,
+            Outlook::Unexpected => {}
+            Outlook::Untold => unknown.push(token)?,
+        }
     }
-    Ok(wanted)
+    Ok(Wanted { can, unknown })
 }
 
 /// The same, with at most 10,000,000 reductions.

@@ -79,9 +79,15 @@ fn ungiven(alloc: Global, spec: &str, about: About<'_>, token: Sym) -> io::Resul
     Ok(one)
 }
 
+/// What is said where no line of a SPEC matches a text.
+pub const UNMATCHED: &str = "no line of the SPEC matches here";
+
+/// What is said where a token too many begins.
+pub const TOO_MANY: &str = "more than 1,000,000 tokens; this is one more";
+
 /// What is wrong at a place of a text, and the first bytes there up to the end of the line; a
 /// newline where the line ends there.
-fn fault_at(alloc: Global, place: Place<'_>, what: &str) -> io::Result<Diagnostic> {
+pub fn fault_at(alloc: Global, place: Place<'_>, what: &str) -> io::Result<Diagnostic> {
     let rest = place.source.get(place.at..).unwrap_or(&[]);
     let newline = rest.iter().skip(1).position(|b| *b == b'\n');
     let end = newline.map_or(rest.len(), |count| count.saturating_add(1));
@@ -90,16 +96,6 @@ fn fault_at(alloc: Global, place: Place<'_>, what: &str) -> io::Result<Diagnosti
     let mut one = Diagnostic::at(alloc, place, true)?;
     write!(one.message, "{what}: {shown}{more}")?;
     Ok(one)
-}
-
-/// That no line of a SPEC matches at a place of a text.
-pub fn unmatched(alloc: Global, place: Place<'_>) -> io::Result<Diagnostic> {
-    fault_at(alloc, place, "no line of the SPEC matches here")
-}
-
-/// That a token too many begins at a place of a text.
-pub fn too_many(alloc: Global, place: Place<'_>) -> io::Result<Diagnostic> {
-    fault_at(alloc, place, "more than 1,000,000 tokens; this is one more")
 }
 
 impl Fault {
@@ -174,9 +170,11 @@ impl Fault {
             }
             What::Long => Limited { path, most }.too_long(rt, true),
             What::LongSpec => Limited { path, most }.too_long(rt, false),
-            What::Tokens(fault) => { file_fault(alloc, about.grammar, (path, &self.bytes), fault) }
-            What::Unmatched(at) => unmatched(alloc, self.place(at)),
-            What::TooMany(at) => too_many(alloc, self.place(at)),
+            What::Tokens(fault) => {
+                file_fault(alloc, about.grammar, (path, self.bytes.as_slice()), fault)
+            }
+            What::Unmatched(at) => fault_at(alloc, self.place(at), UNMATCHED),
+            What::TooMany(at) => fault_at(alloc, self.place(at), TOO_MANY),
             What::Spec(at, wrong) => self.line_fault(alloc, at, wrong),
             What::Ungiven(token) => ungiven(alloc, path, about, token),
         }

@@ -41,12 +41,13 @@ fn text_of(alloc: Global, source: &[u8], foreign: Foreign) -> Made<GrammarText> 
         ..
     } = foreign;
     let grammar = grammar_of(&opened.tables);
-    let spelled = Spelled::of_import(alloc, source, grammar, &imported)?;
+    // tokens are called by the strings of the file
+    let texts = imported.spelling.texts(alloc, source, grammar)?;
     let bytes = mem::replace(&mut imported.text, Vec::new(alloc));
     Ok(GrammarText {
         bytes,
         opened,
-        spelled,
+        spelled: Spelled { texts },
     })
 }
 
@@ -70,7 +71,9 @@ pub fn open_told<F: Files + AllocGlobal>(
         Ok(Read::Plain(opened)) => Ok(Ok(GrammarText {
             bytes,
             opened,
-            spelled: Spelled::none(alloc),
+            spelled: Spelled {
+                texts: Vec::new(alloc),
+            },
         })),
         Ok(Read::Foreign(foreign)) => Ok(Ok(text_of(alloc, &bytes, foreign)?)),
         Err(status) => Ok(Err(status)),

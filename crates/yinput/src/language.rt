@@ -8,7 +8,7 @@ use crate::text::Text;
 use std::alloc::Global;
 use std::io::{self, ErrorKind, Write};
 use std::rt::Files;
-use yexplain::reads::{Made, grammar_of};
+use yexplain::reads::grammar_of;
 use yfaults::opening::Opened;
 use yfiles::diagnostic::Diagnostics;
 use yfiles::reading::Limited;
@@ -33,7 +33,8 @@ pub struct Language {
     pub opened: Opened,
     /// What its tokens are called: by the grammar file, or else by the SPEC.
     pub spelled: Spelled,
-    lexer: Option<Lexer>,
+    /// What cuts its texts, where inputs are texts.
+    pub lexer: Option<Lexer>,
 }
 
 /// An input as tokens.
@@ -106,19 +107,33 @@ impl Language {
         files: LanguageFiles<'_>,
         told: &mut Diagnostics,
     ) -> io::Result<Result<Language, u8>> {
-        let language = match open_told(rt, files.grammar, told)? {
-            Ok(text) => Language::of_text(text),
+        let text = match open_told(rt, files.grammar, told)? {
+            Ok(text) => text,
             Err(status) => return Ok(Err(status)),
         };
+        let GrammarText {
+            opened,
+            spelled,
+            ..
+        } = text;
         let Some(spec) = files.spec else {
-            return Ok(Ok(language));
+            let lexer = None;
+            return Ok(Ok(Language {
+                opened,
+                spelled,
+                lexer,
+            }));
         };
-        match read_lexer(rt, &language.opened.tables, spec)? {
-            Ok(lexer) => Ok(Ok(language.with_lexer(rt.alloc(), lexer)?)),
-            Err(fault) => fault
-                .tell(rt, told, files.grammar, &language.opened)
-                .map(Err),
-        }
+        let lexer = match read_lexer(rt, &opened.tables, spec)? {
+            Ok(lexer) => lexer,
+            Err(fault) => return fault.tell(rt, told, files.grammar, &opened).map(Err),
+        };
+        let texts = lexer.texts(rt.alloc(), grammar_of(&opened.tables))?;
+        Ok(Ok(Language {
+            opened,
+            spelled: spelled.with_texts(rt.alloc(), &texts)?,
+            lexer: Some(lexer),
+        }))
     }
 
     /// Opens both. What is said of them is written; where one is refused, the exit status is the
@@ -134,49 +149,12 @@ impl Language {
         Ok(opened)
     }
 
-    /// A grammar whose inputs are tokens files.
-    fn of_text(text: GrammarText) -> Language {
-        let GrammarText {
-            opened,
-            spelled,
-            ..
-        } = text;
-        Language {
-            opened,
-            spelled,
-            lexer: None,
-        }
-    }
-
-    /// The same with what cuts texts.
-    fn with_lexer(self, alloc: Global, lexer: Lexer) -> Made<Language> {
-        let Language {
-            opened,
-            spelled,
-            lexer: _,
-        } = self;
-        let texts = lexer.texts(alloc, grammar_of(&opened.tables))?;
-        Ok(Language {
-            opened,
-            spelled: spelled.with_texts(alloc, &texts)?,
-            lexer: Some(lexer),
-        })
-    }
-
     /// The symbols of the grammar as people write them.
     pub fn spoken(&self) -> Spoken<'_> {
-        Spoken::new(grammar_of(&self.opened.tables), &self.spelled)
-    }
-
-    /// What cuts its texts, where inputs are texts.
-    pub fn lexer(&self) -> Option<&Lexer> {
-        self.lexer.as_ref()
-    }
-
-    /// The grammar, once no more inputs are read.
-    pub fn into_opened(self) -> Opened {
-        let Language { opened, .. } = self;
-        opened
+        Spoken {
+            grammar: grammar_of(&self.opened.tables),
+            spelled: Some(&self.spelled),
+        }
     }
 
     /// The grammar, and what writes texts of the language, where a SPEC is given.

@@ -6,7 +6,7 @@ use std::alloc::Global;
 use std::io::{self, ErrorKind};
 use yexplain::lines::Lines;
 use yfaults::opening::Opened;
-use yparse::machine::{AtStart, StepFault, StepKind};
+use yparse::machine::{StepFault, StepKind};
 use yparse::{Session, Tokens};
 use ysymbols::let_go;
 use ytables::Tables;
@@ -14,10 +14,14 @@ use ytables::Tables;
 /// A session, the lines of its grammar's file, how many tokens its own file has, and that file,
 /// where it is a text.
 pub struct Parse {
-    session: Session,
-    lines: Lines,
-    tokens: usize,
-    text: Option<Text>,
+    /// The session.
+    pub session: Session,
+    /// Where the rules stand in the grammar file.
+    pub lines: Lines,
+    /// How many tokens the file has.
+    pub tokens: usize,
+    /// The text that the tokens were read from, where it was one.
+    pub text: Option<Text>,
 }
 
 impl Drop for Parse {
@@ -41,7 +45,8 @@ pub fn session_of(alloc: Global, tables: Tables, tokens: Tokens) -> Option<Sessi
 impl Parse {
     /// A parse of an input of a language, at its start.
     pub fn new(alloc: Global, language: Language, input: Input) -> io::Result<Parse> {
-        let Opened { tables, lines } = language.into_opened();
+        let Language { opened, .. } = language;
+        let Opened { tables, lines } = opened;
         let Input { tokens, text } = input;
         let count = tokens.len();
         match session_of(alloc, tables, tokens) {
@@ -69,41 +74,6 @@ impl Parse {
         }
     }
 
-    /// The text that the tokens were read from, where it was one.
-    pub fn text(&self) -> Option<&Text> {
-        self.text.as_ref()
-    }
-
-    /// The session.
-    pub fn session(&self) -> &Session {
-        &self.session
-    }
-
-    /// The tables.
-    pub fn tables(&self) -> &Tables {
-        self.session.tables()
-    }
-
-    /// Where the rules stand in the grammar file.
-    pub fn lines(&self) -> &Lines {
-        &self.lines
-    }
-
-    /// How many tokens the file has.
-    pub fn tokens(&self) -> usize {
-        self.tokens
-    }
-
-    /// One step forward.
-    pub fn step(&mut self) -> Result<StepKind, StepFault> {
-        self.session.step()
-    }
-
-    /// One step or edit back.
-    pub fn back(&mut self) -> Result<StepKind, AtStart> {
-        self.session.back()
-    }
-
     /// The token that these bytes spell comes before the upcoming ones. `None` where they spell
     /// none.
     pub fn insert(&mut self, bytes: &[u8]) -> Result<Option<StepKind>, StepFault> {
@@ -111,10 +81,5 @@ impl Parse {
             Some(token) => self.session.insert(token).map(Some),
             None => Ok(None),
         }
-    }
-
-    /// The first of the upcoming tokens is taken out.
-    pub fn drop_next(&mut self) -> Result<StepKind, StepFault> {
-        self.session.drop_next()
     }
 }

@@ -4,13 +4,13 @@
 use std::alloc::Global;
 use std::io::{self, Write};
 use yexplain::reads::{Made, name_of};
-use yimport::import::Imported;
 use ysymbols::{Grammar, Sym};
 
 /// What symbols are called that aren't called by their names, by their numbers.
 #[derive(Drop)]
 pub struct Spelled {
-    texts: Vec<Option<Vec<u8>>>,
+    /// The texts; without one, a symbol is called by its name.
+    pub texts: Vec<Option<Vec<u8>>>,
 }
 
 /// A text as a string of C has it.
@@ -27,24 +27,6 @@ fn quoted(alloc: Global, text: &[u8]) -> Made<Vec<u8>> {
 }
 
 impl Spelled {
-    /// All symbols are called by their names.
-    pub fn none(alloc: Global) -> Spelled {
-        Spelled {
-            texts: Vec::new(alloc),
-        }
-    }
-
-    /// Tokens are called by the strings of a file of bison that became this grammar.
-    pub fn of_import(
-        alloc: Global,
-        source: &[u8],
-        grammar: &Grammar,
-        imported: &Imported,
-    ) -> Made<Spelled> {
-        let texts = imported.spelling.texts(alloc, source, grammar)?;
-        Ok(Spelled { texts })
-    }
-
     /// What a symbol is called, unless that is its name.
     pub fn of(&self, symbol: Sym) -> Option<&[u8]> {
         let text = self.texts.get(symbol)?;
@@ -71,26 +53,10 @@ pub struct Spoken<'a> {
     /// The grammar.
     pub grammar: &'a Grammar,
     /// What its symbols are called; without it, they are by their names.
-    spelled: Option<&'a Spelled>,
+    pub spelled: Option<&'a Spelled>,
 }
 
-impl<'a> Spoken<'a> {
-    /// The symbols of a grammar by what they are called.
-    pub fn new(grammar: &'a Grammar, spelled: &'a Spelled) -> Spoken<'a> {
-        Spoken {
-            grammar,
-            spelled: Some(spelled),
-        }
-    }
-
-    /// The symbols of a grammar by their names.
-    pub fn by_names(grammar: &'a Grammar) -> Spoken<'a> {
-        Spoken {
-            grammar,
-            spelled: None,
-        }
-    }
-
+impl Spoken<'_> {
     /// Writes what a symbol is called.
     pub fn put<W: Write>(self, out: &mut W, symbol: Sym) -> io::Result<()> {
         let called = match self.spelled {

@@ -18,14 +18,6 @@ const MOST_NAMED: usize = 20;
 const UNDECIDED: &str = "undecided after 1,000,000 steps";
 
 impl Verdict {
-    /// The exit status where nothing else is said.
-    fn status(&self) -> u8 {
-        match self {
-            Verdict::Accepted(_) => 0,
-            Verdict::Rejected(_) | Verdict::Undecided => 1,
-        }
-    }
-
     /// What is wrong with an input, where it isn't accepted. Of a rejection it says this message,
     /// where there is one, and else which token can't come and which can.
     pub fn diagnostic(
@@ -77,7 +69,8 @@ impl Verdict {
         match self {
             Verdict::Accepted(steps) => writeln!(out, "accepted after {steps} steps"),
             Verdict::Rejected(rejection) => {
-                rejection.put_words(out, Spoken::by_names(grammar), None)?;
+                let spelled = None;
+                rejection.put_words(out, Spoken { grammar, spelled }, None)?;
                 writeln!(out)
             }
             Verdict::Undecided => writeln!(out, "{UNDECIDED}"),
@@ -95,46 +88,25 @@ impl Verdict {
             Verdict::Undecided => writeln!(out, "{path}: limit"),
         };
         written?;
-        Ok(self.status())
+        Ok(u8::from(!matches!(self, Verdict::Accepted(_))))
     }
 }
 
-/// What stands before a token of a list: nothing before the first one, and before the last of
-/// those that are named `or`, unless there are more.
-fn between(index: usize, count: usize) -> &'static str {
-    match index {
-        0 => " ",
-        _ if count <= MOST_NAMED && index.saturating_add(1) == count => " or ",
-        _ => ", ",
-    }
-}
-
-/// Writes the first of some tokens as a list, and dots where there are more.
+/// Writes the first of some tokens as a list, with `or` before the last one, or dots where there
+/// are more.
 pub fn put_list<W: Write>(out: &mut W, spoken: Spoken<'_>, tokens: &[Sym]) -> io::Result<()> {
     for (index, token) in tokens.iter().take(MOST_NAMED).enumerate() {
-        let front = between(index, tokens.len());
+        let is_last = index.saturating_add(1) == tokens.len();
+        let front = match index {
+            0 => " ",
+            _ if tokens.len() <= MOST_NAMED && is_last => " or ",
+            _ => ", ",
+        };
         write!(out, "{front}")?;
         spoken.put(out, *token)?;
     }
     if tokens.len() > MOST_NAMED {
         write!(out, ", ..")?;
-    }
-    Ok(())
-}
-
-/// Writes which tokens were expected, as the end of a line.
-fn put_wanted<W: Write>(out: &mut W, spoken: Spoken<'_>, wanted: &Wanted) -> io::Result<()> {
-    let Wanted { can, unknown } = wanted;
-    if can.is_empty() && unknown.is_empty() {
-        write!(out, "; no token can come")?;
-    }
-    if !can.is_empty() {
-        write!(out, ", expected")?;
-        put_list(out, spoken, can)?;
-    }
-    if !unknown.is_empty() {
-        write!(out, "; can't tell of")?;
-        put_list(out, spoken, unknown)?;
     }
     Ok(())
 }
@@ -174,7 +146,19 @@ impl Rejection {
         }
         write!(out, "unexpected ")?;
         spoken.put(out, self.token)?;
-        put_wanted(out, spoken, &self.wanted)
+        let Wanted { can, unknown } = &self.wanted;
+        if can.is_empty() && unknown.is_empty() {
+            write!(out, "; no token can come")?;
+        }
+        if !can.is_empty() {
+            write!(out, ", expected")?;
+            put_list(out, spoken, can)?;
+        }
+        if !unknown.is_empty() {
+            write!(out, "; can't tell of")?;
+            put_list(out, spoken, unknown)?;
+        }
+        Ok(())
     }
 
     /// Writes so with the number of the token.

@@ -38,22 +38,8 @@ pub fn put_states<W: Write>(page: &mut Page<W>, group: Group) {
     }
 }
 
-/// Writes how many kinds aren't named, and how many cells are of no kind.
-fn put_left<W: Write>(page: &mut Page<W>, left: usize, others: usize) {
-    if left > 0 {
-        page.put("and ");
-        page.count(left, "group", "groups");
-        page.line(" more");
-    }
-    if others > 0 {
-        page.put("and ");
-        page.count(others, "table entry", "table entries");
-        page.line(" more, not grouped");
-    }
-}
-
 /// Writes a cell of each kind after the first ones, up to the last one that is named, and how many
-/// more there are.
+/// more there are, and cells of no kind.
 pub fn put_named<W: Write>(
     page: &mut Page<W>,
     tables: &Tables,
@@ -65,5 +51,15 @@ pub fn put_named<W: Write>(
         let _ = put_cell(page, kind.cell(*group, tables, lines));
         put_states(page, *group);
     }
-    put_left(page, found.groups.len().saturating_sub(last), found.others);
+    let left = found.groups.len().saturating_sub(last);
+    if left > 0 {
+        page.put("and ");
+        page.count(left, "group", "groups");
+        page.line(" more");
+    }
+    if found.others > 0 {
+        page.put("and ");
+        page.count(found.others, "table entry", "table entries");
+        page.line(" more, not grouped");
+    }
 }

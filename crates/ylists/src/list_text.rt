@@ -49,18 +49,12 @@ impl<'a> ListText<'a> {
 
     /// Writes that no list allows both rivals, where that is so.
     pub fn put_merged<W: Write>(self, page: &mut Page<W>, finding: &Finding) {
-        let mut lists = finding.lists.iter().map(|list| list.allows);
-        match lists.find(|allows| *allows != Allows::Both) {
-            Some(Allows::One) => self.put_one(page),
-            Some(_) => {
+        if !is_merged(finding) {
+            if finding.lists.iter().any(|list| list.allows != Allows::Both) {
                 page.line("  The search for a list of tokens that allows both took too long.");
             }
-            None => {}
+            return;
         }
-    }
-
-    /// Writes that no list allows both rivals.
-    fn put_one<W: Write>(self, page: &mut Page<W>) {
         if self.kind.others().len() > 1 {
             page.line(
                 "  What is taken is never possible together with a rule that stands alone or \
@@ -82,27 +76,22 @@ impl<'a> ListText<'a> {
         }
     }
 
-    /// Writes a list, and what a parse over it comes to.
+    /// Writes a list, with the rules that it is for, and what a parse over it comes to.
     pub fn put_list<W: Write>(self, page: &mut Page<W>, list: &List) {
         if self.lists > 1 || list.allows != Allows::Both {
-            self.put_rules(page, list);
+            page.put("  for");
+            for (place, rule) in list.rules.iter().enumerate() {
+                page.put(if place > 0 { ", " } else { " " });
+                page.show(Numbered(self.lines, *rule));
+            }
+            page.line(match list.allows {
+                Allows::Both => ":",
+                _ if list.rules.len() > 1 => ", without what is taken:",
+                Allows::One | Allows::Found => " alone:",
+            });
         }
         self.put_tokens(page, &list.tokens);
         self.put_trial(page, list);
-    }
-
-    /// Writes the rules that a list is for.
-    fn put_rules<W: Write>(self, page: &mut Page<W>, list: &List) {
-        page.put("  for");
-        for (place, rule) in list.rules.iter().enumerate() {
-            page.put(if place > 0 { ", " } else { " " });
-            page.show(Numbered(self.lines, *rule));
-        }
-        page.line(match list.allows {
-            Allows::Both => ":",
-            _ if list.rules.len() > 1 => ", without what is taken:",
-            Allows::One | Allows::Found => " alone:",
-        });
     }
 
     /// Writes the tokens of a list, a period, and the token after them.

@@ -1,7 +1,6 @@
 //! Lists of tokens kept as tokens files, or as texts.
 
-use std::alloc::Global;
-use std::fs::{self, DirEntry};
+use std::fs;
 use std::io::{self, ErrorKind, Write};
 use std::rt::Files;
 use yexplain::text::{Name, Names};
@@ -32,28 +31,12 @@ fn is_written(written: io::Result<()>) -> io::Result<bool> {
     }
 }
 
-/// The path of a list in a folder, by what stands before and after the numbers in its name.
-fn path_of(
-    alloc: Global,
-    folder: &str,
-    (front, end): (&str, &str),
-    (number, part): (usize, usize),
-) -> io::Result<String> {
-    let path = if part == 0 {
-        format!(in alloc; "{folder}/{front}{number}{end}")?
-    } else {
-        let part = part.saturating_add(1);
-        format!(in alloc; "{folder}/{front}{number}-{part}{end}")?
-    };
-    Ok(path)
-}
-
-/// Whether a text is a number from 1 on, as `path_of` writes one.
+/// Whether a text is a number from 1 on, as names of lists have one.
 fn is_number(text: &str) -> bool {
     !text.is_empty() && !text.starts_with('0') && text.bytes().all(|b| b.is_ascii_digit())
 }
 
-/// Whether a file's name is one that `path_of` gives.
+/// Whether a file's name is one that a list gets.
 fn is_of_list((front, end): (&str, &str), name: &str) -> bool {
     let numbers = name.strip_prefix(front).unwrap_or("");
     let numbers = numbers.strip_suffix(end).unwrap_or("");
@@ -129,22 +112,6 @@ pub fn are_refused<F: Files + AllocGlobal + Clone + Drop, E: Write>(
     Ok(path.is_some())
 }
 
-/// Removes a file of a folder, where its name is that of a list, and says whether that was done
-/// where it had to be.
-fn is_cleared<F: Files + Drop>(
-    rt: &F,
-    name: (&str, &str),
-    entry: io::Result<DirEntry<F, Global>>,
-) -> io::Result<bool> {
-    match entry {
-        Ok(entry) if is_of_list(name, entry.file_name()) => {
-            is_written(fs::remove_file(rt, entry.path()))
-        }
-        Err(error) if error.kind() == ErrorKind::OutOfMemory => Err(error),
-        _ => Ok(true),
-    }
-}
-
 /// Removes the lists that stand in a folder, and says whether that was done; a folder that isn't
 /// there has none.
 fn are_cleared<F: Files + AllocGlobal + Clone + Drop>(
@@ -162,7 +129,14 @@ fn are_cleared<F: Files + AllocGlobal + Clone + Drop>(
     };
     let mut are_cleared = true;
     for entry in entries {
-        are_cleared = is_cleared(rt, name, entry)? && are_cleared;
+        let is_cleared = match entry {
+            Ok(entry) if is_of_list(name, entry.file_name()) => {
+                is_written(fs::remove_file(rt, entry.path()))?
+            }
+            Err(error) if error.kind() == ErrorKind::OutOfMemory => return Err(error),
+            _ => true,
+        };
+        are_cleared = are_cleared && is_cleared;
     }
     Ok(are_cleared)
 }
@@ -191,8 +165,8 @@ impl<F: Files + AllocGlobal + Clone + Drop> Folder<'_, F> {
         Ok(())
     }
 
-    /// Keeps the tokens of a conflict, where a folder is wanted and the page's writer has not
-    /// failed, and writes the file's path.
+    /// Keeps the tokens of a conflict, and one more where there is one, where a folder is wanted and
+    /// the page's writer has not failed, and writes the file's path.
     pub fn keep<W: Write>(
         &mut self,
         page: &mut Page<W>,
@@ -202,42 +176,37 @@ impl<F: Files + AllocGlobal + Clone + Drop> Folder<'_, F> {
         last: Option<Sym>,
     ) -> io::Result<()> {
         page.checked()?;
-        if let Some(path) = self.store(grammar, numbers, tokens, last)? {
-            page.put("  saved   ");
-            page.line(&path);
-        }
-        Ok(())
-    }
-
-    /// Keeps tokens, and one more where there is one, under a name with these numbers, the second
-    /// one counted from 0, and gives the file's path. Where no folder is wanted, or a file couldn't
-    /// be written, nothing is kept.
-    pub fn store(
-        &mut self,
-        grammar: &Grammar,
-        numbers: (usize, usize),
-        tokens: &[Sym],
-        last: Option<Sym>,
-    ) -> io::Result<Option<String>> {
         let mut text = Vec::new(self.rt.alloc());
         let names = Names(grammar, tokens);
         match last.map(|last| Name(grammar, last)) {
             Some(name) => writeln!(text, "{names} {name}")?,
             None => writeln!(text, "{names}")?,
         }
-        self.store_text(numbers, text.strip_prefix(b" ").unwrap_or(&text))
+        let text = text.strip_prefix(b" ").unwrap_or(&text);
+        if let Some(path) = self.store_text(numbers, text)? {
+            page.put("  saved   ");
+            page.line(&path);
+        }
+        Ok(())
     }
 
-    /// Keeps a text likewise.
+    /// Keeps a text under a name with these numbers, the second one counted from 0, and gives the
+    /// file's path. Where no folder is wanted, or a file couldn't be written, nothing is kept.
     pub fn store_text(
         &mut self,
-        numbers: (usize, usize),
+        (number, part): (usize, usize),
         text: &[u8],
     ) -> io::Result<Option<String>> {
         let (Some(folder), None) = (self.path, &self.failed) else {
             return Ok(None);
         };
-        let path = path_of(self.rt.alloc(), folder, self.name, numbers)?;
+        let (alloc, (front, end)) = (self.rt.alloc(), self.name);
+        let path = if part == 0 {
+            format!(in alloc; "{folder}/{front}{number}{end}")?
+        } else {
+            let part = part.saturating_add(1);
+            format!(in alloc; "{folder}/{front}{number}-{part}{end}")?
+        };
         if is_written(write_over(self.rt, &path, text))? {
             return Ok(Some(path));
         }

@@ -90,7 +90,7 @@ impl<'a> Inputs<'a> {
     pub fn of_language(language: &'a Language) -> Inputs<'a> {
         Inputs {
             tables: &language.opened.tables,
-            lexer: language.lexer(),
+            lexer: language.lexer.as_ref(),
             noted: false,
         }
     }

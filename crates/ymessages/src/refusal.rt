@@ -9,7 +9,7 @@ use yexplain::text::Name;
 use yfaults::opening::part_fault;
 use yfiles::diagnostic::{Diagnostic, Diagnostics};
 use yfiles::place::Place;
-use yinput::fault::{too_many, unmatched};
+use yinput::fault::{TOO_MANY, UNMATCHED, fault_at};
 use ysymbols::Grammar;
 
 /// A file of messages: its path and its bytes.
@@ -79,8 +79,8 @@ impl Source<'_> {
                 let tokens = (self.place(line, 0), line.of(self.bytes));
                 part_fault(alloc, grammar, tokens, fault)
             }
-            Wrong::Unmatched(before) => unmatched(alloc, self.place(line, before)),
-            Wrong::TooMany(before) => too_many(alloc, self.place(line, before)),
+            Wrong::Unmatched(before) => fault_at(alloc, self.place(line, before), UNMATCHED),
+            Wrong::TooMany(before) => fault_at(alloc, self.place(line, before), TOO_MANY),
         }
     }
 

@@ -8,7 +8,7 @@ use yexplain::text::ItemText;
 use ysymbols::{Grammar, Sym};
 use ytables::Tables;
 use yview::page::Page;
-use yview::reading::{name_of, states_of};
+use yview::reading::name_of;
 
 /// How long a line of words is.
 const WIDTH: usize = 78;
@@ -43,7 +43,7 @@ fn put_word<W: Write>(page: &mut Page<W>, number: usize, word: &str) {
         _ => 4,
     };
     if page
-        .column()
+        .column
         .saturating_add(word.len())
         .saturating_add(front)
         >= WIDTH
@@ -156,7 +156,7 @@ pub fn put_head<W: Write>(
     errors: &Errors,
     texts: bool,
 ) {
-    let (count, states) = (errors.count(), states_of(tables));
+    let (count, states) = (errors.count(), tables.automaton().states());
     let inputs = if texts { "texts" } else { "inputs" };
     let _ = writeln!(
         page,
@@ -193,7 +193,7 @@ fn put_states<W: Write>(page: &mut Page<W>, errors: &Errors, reason: Reason) {
                 put_reason(page, reason);
             }
             is_begun = true;
-            if page.column().saturating_add(5) >= WIDTH {
+            if page.column.saturating_add(5) >= WIDTH {
                 page.end();
                 page.put(FURTHER);
             }

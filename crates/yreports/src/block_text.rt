@@ -51,8 +51,8 @@ impl BlockText<'_> {
         page.spaces(INDENT - 1);
         for entry in entries {
             let token = entry.kind.token;
-            let width = page.column().saturating_add(name_of(grammar, token).len());
-            if width >= WIDTH && page.column() >= INDENT {
+            let width = page.column.saturating_add(name_of(grammar, token).len());
+            if width >= WIDTH && page.column >= INDENT {
                 page.end();
                 page.spaces(INDENT - 1);
             }

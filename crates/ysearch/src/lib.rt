@@ -1,5 +1,5 @@
-//! What is sought in tables: shortest sentences, ways and ends; the conflicts of a grammar, and lists
-//! of tokens that get to them, each tried in a session; how many steps all of that may take.
+//! What is sought in tables: shortest sentences, ways and ends; the conflicts of a grammar, and
+//! lists of tokens that get to them, each tried in a session; how many steps all of that may take.
 //!
 //! `lists` has lists by number, `queue` what waits with its length, `budget` the steps of a run.
 //! `shortest` has the shortest sentences of symbols, `moves` the shortest ways to states, and

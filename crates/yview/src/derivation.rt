@@ -65,35 +65,15 @@ impl<'a> Form<'a> {
         Ok(())
     }
 
-    /// Takes the last tree: a rule is replaced by its body, which makes another form, and anything
-    /// else moves to the tokens. `None` where there are no more trees.
-    fn expand(&mut self) -> Made<Option<bool>> {
-        let grammar = self.grammar;
-        let Some(tree) = self.trees.pop() else {
-            return Ok(None);
-        };
-        match tree.node() {
-            TreeNode::Rule(_) => {
-                self.open(&tree)?;
-                Ok(Some(true))
-            }
-            node => {
-                self.tokens.push(symbol_of(grammar, node))?;
-                Ok(Some(false))
-            }
-        }
-    }
-
     /// How many bytes it takes.
     fn width(&self) -> u64 {
-        let grammar = self.grammar;
-        let roots = self
-            .trees
-            .iter()
-            .map(|tree| symbol_of(grammar, tree.node()));
         let mut width: u64 = 0;
-        for symbol in roots.chain(self.tokens.iter().copied()) {
-            width = width.saturating_add(width_of(grammar, symbol));
+        for tree in &self.trees {
+            let symbol = symbol_of(self.grammar, tree.node());
+            width = width.saturating_add(width_of(self.grammar, symbol));
+        }
+        for token in &self.tokens {
+            width = width.saturating_add(width_of(self.grammar, *token));
         }
         width
     }
@@ -105,13 +85,13 @@ impl<'a> Form<'a> {
             page.line(EMPTY);
             return;
         }
-        let roots = self
-            .trees
-            .iter()
-            .map(|tree| symbol_of(grammar, tree.node()));
-        for symbol in roots.chain(self.tokens.iter().rev().copied()) {
+        for tree in &self.trees {
             page.put(" ");
-            page.put(name_of(grammar, symbol));
+            page.put(name_of(grammar, symbol_of(grammar, tree.node())));
+        }
+        for token in self.tokens.iter().rev() {
+            page.put(" ");
+            page.put(name_of(grammar, *token));
         }
         page.end();
     }
@@ -120,17 +100,6 @@ impl<'a> Form<'a> {
 /// How many bytes a symbol takes in a form.
 fn width_of(grammar: &Grammar, symbol: Sym) -> u64 {
     (name_of(grammar, symbol).len() as u64).saturating_add(1)
-}
-
-/// How many bytes the children of a tree take in a form.
-fn width_of_children(grammar: &Grammar, tree: &TreeView<'_>) -> u64 {
-    let mut width: u64 = 0;
-    for index in 0..tree.children() {
-        if let Some(child) = child_of(tree, index) {
-            width = width.saturating_add(width_of(grammar, symbol_of(grammar, child.node())));
-        }
-    }
-    width
 }
 
 /// How many bytes a line takes for a form of so many.
@@ -152,9 +121,13 @@ pub fn size_of_derivation(alloc: Global, session: &Session) -> Made<u64> {
             break;
         };
         if let TreeNode::Rule(_) = tree.node() {
-            width = width
-                .saturating_sub(width_of(grammar, symbol_of(grammar, tree.node())))
-                .saturating_add(width_of_children(grammar, &tree));
+            width = width.saturating_sub(width_of(grammar, symbol_of(grammar, tree.node())));
+            for index in 0..tree.children() {
+                if let Some(child) = child_of(&tree, index) {
+                    let symbol = symbol_of(grammar, child.node());
+                    width = width.saturating_add(width_of(grammar, symbol));
+                }
+            }
             size = size.saturating_add(line_of(width));
             form.open(&tree)?;
         }
@@ -162,30 +135,9 @@ pub fn size_of_derivation(alloc: Global, session: &Session) -> Made<u64> {
     Ok(size)
 }
 
-/// The further forms, at most so many, up to a fault of the page.
-fn put_forms<W: Write>(page: &mut Page<W>, form: &mut Form<'_>, most: usize) -> Made<()> {
-    let mut written = 1usize;
-    for _ in 0..=MOST_NODES {
-        if page.checked().is_err() {
-            break;
-        }
-        match form.expand()? {
-            None => break,
-            Some(false) => {}
-            Some(true) if written >= most => {
-                page.line("  ..  (derivation all writes every form)");
-                break;
-            }
-            Some(true) => {
-                form.put(page);
-                written = written.saturating_add(1);
-            }
-        }
-    }
-    Ok(())
-}
-
-/// The forms from the one now to the tokens: at most so many.
+/// The forms from the one now to the tokens, at most so many, up to a fault of the page. The last
+/// tree is taken: a rule is replaced by its body, which makes another form, and anything else moves
+/// to the tokens.
 pub fn put_derivation<W: Write>(
     alloc: Global,
     page: &mut Page<W>,
@@ -194,5 +146,26 @@ pub fn put_derivation<W: Write>(
 ) -> Made<()> {
     let mut form = Form::now(alloc, session)?;
     form.put(page);
-    put_forms(page, &mut form, most)
+    let mut written = 1usize;
+    for _ in 0..=MOST_NODES {
+        if page.checked().is_err() {
+            break;
+        }
+        let Some(tree) = form.trees.pop() else {
+            break;
+        };
+        let TreeNode::Rule(_) = tree.node() else {
+            let symbol = symbol_of(form.grammar, tree.node());
+            form.tokens.push(symbol)?;
+            continue;
+        };
+        form.open(&tree)?;
+        if written >= most {
+            page.line("  ..  (derivation all writes every form)");
+            break;
+        }
+        form.put(page);
+        written = written.saturating_add(1);
+    }
+    Ok(())
 }

@@ -6,19 +6,6 @@ use ytables::{Link, Tables};
 /// The polynomial, its lowest power first.
 const POLYNOMIAL: u32 = 0xedb8_8320;
 
-/// The remainder with one byte more.
-fn with_byte(rest: u32, byte: u8) -> u32 {
-    let mut rest = rest ^ u32::from(byte);
-    for _ in 0..8 {
-        rest = if rest & 1 == 1 {
-            (rest >> 1) ^ POLYNOMIAL
-        } else {
-            rest >> 1
-        };
-    }
-    rest
-}
-
 /// The digest, a CRC-32, of the table that `yacc` writes for these tables.
 pub fn digest_of(alloc: Global, tables: &Tables) -> Result<u32, AllocError> {
     let mut link = Link::new(Vec::new(alloc));
@@ -28,7 +15,14 @@ pub fn digest_of(alloc: Global, tables: &Tables) -> Result<u32, AllocError> {
     let table = link.into_inner();
     let mut rest = u32::MAX;
     for byte in &table {
-        rest = with_byte(rest, *byte);
+        rest = rest ^ u32::from(*byte);
+        for _ in 0..8 {
+            rest = if rest & 1 == 1 {
+                (rest >> 1) ^ POLYNOMIAL
+            } else {
+                rest >> 1
+            };
+        }
     }
     Ok(!rest)
 }

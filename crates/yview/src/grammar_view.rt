@@ -1,10 +1,10 @@
 //! A grammar: its rules.
 
 use crate::page::Page;
-use crate::reading::{name_of, rule_precedence};
+use crate::reading::name_of;
 use std::io::Write;
 use yexplain::lines::Lines;
-use yexplain::reads::grammar_of;
+use yexplain::reads::{grammar_of, rule_of};
 use yexplain::text::{Numbered, RuleText};
 use ysymbols::{Associativity, Grammar, Precedence};
 use ytables::Tables;
@@ -48,7 +48,10 @@ impl Rules<'_> {
     /// A rule, its line, its precedence, and the token that gives it.
     pub fn put_one<W: Write>(self, page: &mut Page<W>, rule: usize) {
         let grammar = self.grammar;
-        let precedence = rule_precedence(grammar, rule);
+        let precedence = match rule_of(grammar, rule) {
+            Some(rule) => rule.precedence(),
+            None => None,
+        };
         page.show(Numbered(self.lines, rule));
         put_precedence(page, precedence);
         if let (Some(_), Some(token)) = (precedence, self.lines.giver(grammar, rule)) {

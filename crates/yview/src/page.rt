@@ -32,7 +32,8 @@ pub enum Paint {
 #[derive(Drop)]
 pub struct Page<W> {
     out: W,
-    column: usize,
+    /// How many bytes stand in the line.
+    pub column: usize,
     colour: bool,
     fault: Option<ErrorKind>,
 }
@@ -52,11 +53,6 @@ impl<W: Write> Page<W> {
     pub fn into_out(self) -> W {
         let Page { out, .. } = self;
         out
-    }
-
-    /// How many bytes stand in the line.
-    pub fn column(&self) -> usize {
-        self.column
     }
 
     /// The first fault of the writer, where there was one.
@@ -121,11 +117,6 @@ impl<W: Write> Page<W> {
     pub fn end(&mut self) {
         self.column = 0;
         self.send(b"\n");
-    }
-
-    /// Notes that a person has ended the line.
-    pub fn fresh(&mut self) {
-        self.column = 0;
     }
 
     /// Writes a whole line.

@@ -3,9 +3,8 @@
 use std::str;
 use yexplain::reads;
 use ylalr::END;
-use yparse::machine::Mode;
 use yparse::{Session, TreeView};
-use ysymbols::{Grammar, Precedence, Sym};
+use ysymbols::{Grammar, Sym};
 use ytables::Tables;
 
 /// How many nodes a parse has at most: no step makes more than one.
@@ -16,11 +15,6 @@ pub fn name_of(grammar: &Grammar, symbol: Sym) -> &str {
     str::from_utf8(reads::name_of(grammar, symbol)).unwrap_or("?")
 }
 
-/// How many states there are.
-pub fn states_of(tables: &Tables) -> usize {
-    tables.automaton().states()
-}
-
 /// The number of the last rule.
 pub fn last_rule(grammar: &Grammar) -> usize {
     grammar.rules().saturating_sub(1)
@@ -28,17 +22,7 @@ pub fn last_rule(grammar: &Grammar) -> usize {
 
 /// The number of the last state.
 pub fn last_state(tables: &Tables) -> usize {
-    states_of(tables).saturating_sub(1)
-}
-
-/// Whether a cell counts a conflict.
-pub fn has_conflict(tables: &Tables, state: usize, token: Sym) -> bool {
-    reads::conflict_of(tables, state, token).is_some()
-}
-
-/// The precedence of a rule.
-pub fn rule_precedence(grammar: &Grammar, rule: usize) -> Option<Precedence> {
-    reads::rule_of(grammar, rule).and_then(|rule| rule.precedence())
+    tables.automaton().states().saturating_sub(1)
 }
 
 /// The symbol of a stack entry, counted from the bottom.
@@ -91,9 +75,4 @@ pub fn child_of<'a>(tree: &TreeView<'a>, index: usize) -> Option<TreeView<'a>> {
     } else {
         None
     }
-}
-
-/// Whether the parse is running: the cells say its next step.
-pub fn is_running(session: &Session) -> bool {
-    session.view().mode() == Mode::Running
 }

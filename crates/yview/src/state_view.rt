@@ -1,11 +1,11 @@
 //! A state: its items, its actions by token, its gotos.
 
 use crate::page::{Page, Paint};
-use crate::reading::{has_conflict, name_of};
+use crate::reading::name_of;
 use std::io::{Sink, Write, sink};
 use yexplain::reads::{
-    action_of, candidates_of, default_of, goto_of, grammar_of, is_complete, is_kernel, items_of,
-    looks_at, next_of,
+    action_of, candidates_of, conflict_of, default_of, goto_of, grammar_of, is_complete, is_kernel,
+    items_of, looks_at, next_of,
 };
 use yexplain::text::ItemText;
 use ylalr::{END, Item, token_count};
@@ -18,13 +18,6 @@ const FEW: usize = 12;
 const SOME_LOOKS: usize = 6;
 /// The widest item that the notes of the others are aligned with.
 const WIDEST: usize = 64;
-
-/// How many columns an item takes.
-fn item_width(grammar: &Grammar, item: Item) -> usize {
-    let mut nowhere: Page<Sink> = Page::new(sink(), false);
-    nowhere.show(ItemText(grammar, item));
-    nowhere.column()
-}
 
 /// How much an item matters in a short list.
 #[derive(Clone, Copy, PartialEq, Eq)]
@@ -46,16 +39,6 @@ fn rank_of(grammar: &Grammar, item: Item, ahead: Sym) -> Rank {
     } else {
         Rank::Third
     }
-}
-
-/// What is done at a token.
-pub fn put_action<W: Write>(page: &mut Page<W>, action: Action) {
-    let _ = match action {
-        Action::Shift(next) => write!(page, "shift, to state {next}"),
-        Action::Reduce(rule) => write!(page, "reduce by rule {rule}"),
-        Action::Accept => write!(page, "accept"),
-        Action::Error => write!(page, "error"),
-    };
 }
 
 /// How many items of one rank are wanted, and how wide they are at most.
@@ -127,7 +110,9 @@ impl<'a> Shown<'a> {
         let mut width = 0;
         for item in self.items() {
             if wanted(*item) {
-                width = item_width(self.grammar(), *item).min(WIDEST).max(width);
+                let mut nowhere: Page<Sink> = Page::new(sink(), false);
+                nowhere.show(ItemText(self.grammar(), *item));
+                width = nowhere.column.min(WIDEST).max(width);
             }
         }
         width
@@ -154,7 +139,7 @@ impl<'a> Shown<'a> {
             Action::Error => candidates_of(self.tables, self.state, token)
                 .next()
                 .is_some(),
-            Action::Reduce(_) => has_conflict(self.tables, self.state, token),
+            Action::Reduce(_) => conflict_of(self.tables, self.state, token).is_some(),
         }
     }
 
@@ -166,8 +151,13 @@ impl<'a> Shown<'a> {
                 page.put("   ");
                 page.put(name_of(self.grammar(), token));
                 page.tab(20);
-                put_action(page, action);
-                if has_conflict(self.tables, self.state, token) {
+                let _ = match action {
+                    Action::Shift(next) => write!(page, "shift, to state {next}"),
+                    Action::Reduce(rule) => write!(page, "reduce by rule {rule}"),
+                    Action::Accept => write!(page, "accept"),
+                    Action::Error => write!(page, "error"),
+                };
+                if conflict_of(self.tables, self.state, token).is_some() {
                     page.painted(Paint::Bad, "  (conflict)");
                 }
                 page.end();
@@ -208,19 +198,6 @@ impl<'a> Shown<'a> {
             }
         }
     }
-
-    /// Where the nonterminals lead.
-    fn put_gotos<W: Write>(self, page: &mut Page<W>) {
-        let grammar = self.grammar();
-        for symbol in token_count(grammar)..grammar.symbols() {
-            if let Some(next) = goto_of(self.tables.automaton(), self.state, symbol) {
-                page.put("   ");
-                page.put(name_of(grammar, symbol));
-                page.tab(20);
-                let _ = writeln!(page, "to state {next}");
-            }
-        }
-    }
 }
 
 /// The items of a state that are complete or about the token ahead, and then those that have
@@ -255,5 +232,13 @@ pub fn put_state<W: Write>(page: &mut Page<W>, tables: &Tables, state: usize) {
         shown.put_noted(page, *item, width, usize::MAX);
     }
     shown.put_actions(page);
-    shown.put_gotos(page);
+    let grammar = shown.grammar();
+    for symbol in token_count(grammar)..grammar.symbols() {
+        if let Some(next) = goto_of(tables.automaton(), state, symbol) {
+            page.put("   ");
+            page.put(name_of(grammar, symbol));
+            page.tab(20);
+            let _ = writeln!(page, "to state {next}");
+        }
+    }
 }
