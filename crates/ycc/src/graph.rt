@@ -33,6 +33,9 @@ const OLD_HEAD: &str = " {
 \t*/
 ";
 
+/// The bits of a byte.
+const BITS: [usize; 8] = [1, 2, 4, 8, 16, 32, 64, 128];
+
 /// Literals by their names, and as files have them.
 const ESCAPES: [(&[u8], &[u8]); 9] = [
     (b"'\\007'", b"'\\a'"),
@@ -188,7 +191,7 @@ impl Graph<'_> {
         let number = *code.sets.as_slice().get(state)?;
         let place = number.saturating_mul(code.span).saturating_add(code.tokens / 8);
         let byte = code.bits.as_slice().get(place).copied().unwrap_or(0);
-        if number == 0 || (byte >> (code.tokens % 8)) & 1 == 1 {
+        if number == 0 || byte & *BITS.get(code.tokens % 8)? != 0 {
             code.usual.as_slice().get(state).copied()
         } else {
             None

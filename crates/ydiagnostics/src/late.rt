@@ -16,6 +16,9 @@ const MOST_REDUCTIONS: usize = 100_000;
 /// The most rules that are named.
 const MOST_NAMED: usize = 20;
 
+/// The bits of a byte.
+const BITS: [usize; 8] = [1, 2, 4, 8, 16, 32, 64, 128];
+
 /// Where such a parser detects an error.
 #[derive(Serialize)]
 pub struct Late {
@@ -51,11 +54,19 @@ fn rule_at(code: &Code, state: usize, token: Sym) -> Option<usize> {
     if code.actions.checks.as_slice().get(place) == Some(&token) {
         let value = code.actions.values.as_slice().get(place)?;
         let rule = value.checked_sub(code.states)?;
-        return Some(rule).filter(|rule| *rule > 0 && *rule < code.rules);
+        return if rule > 0 && rule < code.rules {
+            Some(rule)
+        } else {
+            None
+        };
     }
     let place = number.saturating_mul(code.span).saturating_add(token / 8);
     let byte = code.bits.as_slice().get(place)?;
-    usual.filter(|_| (byte >> (token % 8)) & 1 == 1)
+    if *byte & *BITS.get(token % 8)? != 0 {
+        usual
+    } else {
+        None
+    }
 }
 
 impl Defaults {
