@@ -9,14 +9,16 @@ from checks.scenarios.pages import blocks_of
 from checks.shared.places import DRIVERS, TUTORIAL
 from checks.shared.spelling import names_of
 
-# What stands in place of the messages that `ydebug errors` writes, one after the other. `$1` isn't
-# among it: an entry of the stack stands by its tokens in `ydebug`, and by its symbol elsewhere.
+# What stands in place of the messages that `ydebug errors` writes, one after the other.
 TEXTS = (
     "no $0 here",
     "$expected can come,\nand not $0",
     "$$5, $x and $0$",
     "$expected, please; $99$0 isn't",
 )
+# Those with entries of the stack, which stand by their tokens in `ydebug` and in parsers in C; in
+# drivers by their symbols.
+ENTRIES = (*TEXTS, "after $1, after $2$3", "$2 $1, and $0: $expected")
 # A block of such a file, and the first line of one.
 BLOCK = re.compile(r"((?:.+\n)+)\nunexpected \$0, expected \$expected\n\n?")
 # A file of bison with strings for its tokens, one of them for the end, and a string without one.
@@ -44,14 +46,14 @@ def languages():
     return [*((it, []) for it in grammars()), (FOREIGN, ["--from", "bison"])]
 
 
-def with_texts(listed):
-    """A file of messages with other texts, and without every fifth block."""
+def with_texts(listed, texts):
+    """A file of messages with these texts, and without every fifth block."""
     numbers = count()
 
     def changed(found):
         """A block with another text."""
         number = next(numbers)
-        return "" if number % 5 == 4 else f"{found[1]}\n{TEXTS[number % len(TEXTS)]}\n\n"
+        return "" if number % 5 == 4 else f"{found[1]}\n{texts[number % len(texts)]}\n\n"
 
     return BLOCK.sub(changed, listed.decode()).encode()
 
@@ -90,12 +92,12 @@ def table_of(files, way, programs, options):
     return told_by(way, programs, [run_of(["yacc", "grammar"], files)])[0]["left/y.tab"]
 
 
-def told_of(grammar, way, programs, options=()):
+def told_of(grammar, way, programs, options=(), texts=TEXTS):
     """What `ydebug` says of the inputs of a grammar, which is given with these options."""
     files = {"grammar": grammar}
     table = table_of(files, way, programs, options)
     listing = told_by(way, programs, [run_of(["ydebug", "errors", "grammar", *options], files)])[0]
-    files["messages"] = with_texts(listing["stdout"])
+    files["messages"] = with_texts(listing["stdout"], texts)
     words = ["ydebug", "errors", "grammar", "--messages", "messages", "--table", "y.msg", *options]
     made = told_by(way, programs, [run_of(words, {**files, "y.msg": b""})])[0]
     inputs = inputs_of(listing["stdout"])

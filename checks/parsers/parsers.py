@@ -20,7 +20,7 @@ import zlib
 from concurrent.futures import ThreadPoolExecutor
 from pathlib import Path
 
-from checks.parsers.messages import grammars, told_of
+from checks.parsers.messages import ENTRIES, grammars, told_of
 from checks.parsers.pairs import MOST, cases_of, pairs_of_scenarios
 from checks.scenarios import proved
 from checks.scenarios.pages import blocks_of
@@ -197,7 +197,7 @@ def said_of(program, table, names):
 
 def compare_said(grammar, programs, order):
     """What the parser of a grammar with messages says of errors against `ydebug`."""
-    told = told_of(grammar, proved, programs)
+    told = told_of(grammar, proved, programs, texts=ENTRIES)
     with tempfile.TemporaryDirectory() as folder:
         program = speaking(folder, told, programs["ycc"], order)
         for (table, names), text in zip(told.cases, told.texts, strict=True):

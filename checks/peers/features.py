@@ -14,6 +14,9 @@ both, the peer and ycc have to end with the same status and say the same warning
 same places, but for what bison says of changes that it would make to a file. Of conflicts that a file
 doesn't expect bison says no place; of byacc's the line on conflicts counts.
 
+Each file of checks/data/features/graphs begins with a comment `PEER draws: WORDS`: with these words the
+graphs of the peer and of ycc have to be the same, byte for byte, but for the numbers of states.
+
 Each file of checks/data/features/refused has to be refused with status 1, a message that names the
 file and the line below its comment `refused below: WORDS`, and has these words; no file may be
 written.
@@ -34,6 +37,7 @@ newline may stand as in C:
     environment YYDEBUG=1             what the program finds there
     input 1 + 2\\n                     standard input of one run; a newline follows
 """
+import difflib
 import itertools
 import os
 import re
@@ -45,6 +49,7 @@ from concurrent.futures import ThreadPoolExecutor
 from dataclasses import dataclass, field, replace
 from pathlib import Path
 
+from checks.peers.graphs import drawn
 from checks.shared import running
 from checks.shared.arguments import asked
 from checks.shared.places import DATA
@@ -62,6 +67,7 @@ KEYS |= {"input", "called", "theirs"}
 REFUSED = re.compile(r"refused below: (.*?) *\*/")
 # What `-v` tells of ycc.
 TOLD = re.compile(r"^ycc: .*: order and names of \w+\n", re.M)
+DRAWS = re.compile(r"/\* (\w+) draws: *(.*?) *\*/")
 TELLS = re.compile(r"/\* (\w+) tells: *(.*?) *\*/")
 SAID = re.compile(r"^\S+?\.y:(?:(\d+)[.:](\d+)[-.\d]*:)? (error|warning): (.*)$", re.M)
 COUNTED = re.compile(r"^\w+: (\d+ \w+/reduce conflict.*)$", re.M)
@@ -330,6 +336,29 @@ def compare_told(file, ycc, _kept):
         raise Differs(f"wanted {wanted}\nmade {made}")
 
 
+def graph_by(maker, words, file, is_bison):
+    """The lines of the graph that a program draws, with states numbered anew."""
+    how = ["--graph=parser.dot", "-o", "parser.c"] if is_bison else ["-g", "-b", "parser"]
+    with tempfile.TemporaryDirectory() as room:
+        shutil.copy(file, room)
+        made = run([*maker, *words, *how, file.name], room, env=PLAIN)
+        if made.returncode:
+            raise Differs(f"{maker}: status {made.returncode}\n{text_of(made.stderr)}")
+        return drawn(Path(f"{room}/parser.dot").read_text())
+
+
+def compare_graph(file, ycc, _kept):
+    """Compares the graphs of a file."""
+    peer, words = DRAWS.search(file.read_text()).groups()
+    is_bison = peer == "bison"
+    own = [ycc, *(["--bison"] if is_bison else [])] if ycc else [peer]
+    wanted = graph_by([peer], words.split(), file, is_bison)
+    made = graph_by(own, words.split(), file, is_bison)
+    if wanted != made:
+        both = difflib.unified_diff(wanted, made, "wanted", "made", lineterm="", n=0)
+        raise Differs("\n".join(both))
+
+
 def place_of_refusal(text):
     """The line below the comment, and the words that are wanted."""
     found = REFUSED.search(text)
@@ -390,6 +419,8 @@ def jobs_of(ycc, given):
     jobs += [(refuse, it, ycc, given.keep) for it in refused]
     told_of = sorted((FEATURES / "told").iterdir())
     jobs += [(compare_told, it, ycc, given.keep) for it in told_of]
+    graphs = sorted((FEATURES / "graphs").iterdir())
+    jobs += [(compare_graph, it, ycc, given.keep) for it in graphs]
     return [it for it in jobs if given.only in it[1].name]
 
 

@@ -60,7 +60,7 @@ class Parsers(Planted):
         ):
             lines = mock.Mock(side_effect=said)
             with mock.patch.multiple(
-                parsers, told_of=lambda *_: told, speaking=mock.Mock(), said_of=lines
+                parsers, told_of=lambda *_, **__: told, speaking=mock.Mock(), said_of=lines
             ):
                 job = parsers.compare_said, b"%%", {"ycc": "ycc"}, order
                 self.assertEqual(bool(parsers.wrong(job)), wrong, said)
@@ -216,7 +216,7 @@ class Drivers(Planted):
     def test_files_of_messages(self):
         """Blocks get other messages, and every fifth one is left out."""
         block = "'x'\n## state 2\n## expected $end\n\nunexpected $0, expected $expected\n\n"
-        made = messages.with_texts(("## front\n\n" + block * 6).encode()).decode()
+        made = messages.with_texts(("## front\n\n" + block * 6).encode(), messages.TEXTS).decode()
         self.assertEqual(made.count("## state"), 5)
         self.assertNotIn("unexpected", made)
         self.assertEqual(messages.inputs_of((block * 2).encode()), [b"'x'\n"] * 2)

@@ -8,7 +8,7 @@ use yexplain::reads::{
 };
 use yfiles::output::Output;
 use yfindings::walk::{Walk, left_in};
-use ylalr::{END, ERROR, Item, token_count};
+use ylalr::{ERROR, Item, token_count};
 use yparts::parts::Parts;
 use ysymbols::Sym;
 use ytables::{Action, Tables};
@@ -32,6 +32,22 @@ const OLD_HEAD: &str = " {
 \tratio=auto;
 \t*/
 ";
+
+/// The bits of a byte.
+const BITS: [usize; 8] = [1, 2, 4, 8, 16, 32, 64, 128];
+
+/// Literals by their names, and as files have them.
+const ESCAPES: [(&[u8], &[u8]); 9] = [
+    (b"'\\007'", b"'\\a'"),
+    (b"'\\010'", b"'\\b'"),
+    (b"'\\011'", b"'\\t'"),
+    (b"'\\012'", b"'\\n'"),
+    (b"'\\013'", b"'\\v'"),
+    (b"'\\014'", b"'\\f'"),
+    (b"'\\015'", b"'\\r'"),
+    (b"'\\047'", b"'\\''"),
+    (b"'\\134'", b"'\\\\'"),
+];
 
 /// An automaton that is drawn: its tables, the names of its symbols in the file, and which states
 /// reduce by default.
@@ -59,6 +75,16 @@ fn put_quoted(out: &mut Output, bytes: &[u8]) {
     }
 }
 
+/// What stands in a file for a literal that has three digits as its name.
+fn escape_in(name: &[u8]) -> Option<&'static [u8]> {
+    for (digits, escape) in &ESCAPES {
+        if *digits == name {
+            return Some(*escape);
+        }
+    }
+    None
+}
+
 impl Graph<'_> {
     /// Writes what a symbol is called in the file; that of an action within a body as bison calls
     /// it.
@@ -71,19 +97,15 @@ impl Graph<'_> {
                 out.put("$@");
                 out.put_bytes(number);
             }
-            (None, _) => put_quoted(out, name),
+            (None, _) => put_quoted(out, escape_in(name).unwrap_or(name)),
         }
     }
 
-    /// Writes the body of an item with a dot. In rule 0 the end follows it, which may be passed.
-    fn put_body(self, out: &mut Output, item: Item, dot: &str, is_passed: bool) {
+    /// Writes the body of an item with a dot.
+    fn put_body(self, out: &mut Output, item: Item, dot: &str) {
         let body = body_of(grammar_of(self.tables), item.rule);
         for symbol in body.get(..item.dot).unwrap_or(body) {
             self.put_name(out, *symbol);
-            out.put(" ");
-        }
-        if is_passed {
-            self.put_name(out, END);
             out.put(" ");
         }
         out.put(dot);
@@ -91,15 +113,10 @@ impl Graph<'_> {
             out.put(" ");
             self.put_name(out, *symbol);
         }
-        if item.rule == 0 && !is_passed {
-            out.put(" ");
-            self.put_name(out, END);
-        }
     }
 
-    /// Writes an item of a rule, whose left side may be that of the item before. In rule 0 the end
-    /// may be passed.
-    fn put_item(self, out: &mut Output, item: Item, is_passed: bool, before: Option<Sym>) {
+    /// Writes an item of a rule, whose left side may be that of the item before.
+    fn put_item(self, out: &mut Output, item: Item, before: Option<Sym>) {
         let grammar = grammar_of(self.tables);
         if item.rule < 100 {
             out.put(if item.rule < 10 { "  " } else { " " });
@@ -118,7 +135,7 @@ impl Graph<'_> {
             }
             (None, _) => out.put("$accept: "),
         }
-        self.put_body(out, item, "•", is_passed);
+        self.put_body(out, item, "•");
         out.put("\\l");
     }
 
@@ -128,7 +145,7 @@ impl Graph<'_> {
         let mut before = None;
         for item in items_of(self.tables.automaton(), state) {
             if is_kernel(*item) {
-                self.put_item(out, *item, false, before);
+                self.put_item(out, *item, before);
                 before = left_of(grammar_of(self.tables), item.rule);
             }
         }
@@ -176,7 +193,7 @@ impl Graph<'_> {
             .saturating_mul(code.span)
             .saturating_add(code.tokens / 8);
         let byte = code.bits.as_slice().get(place).copied().unwrap_or(0);
-        if number == 0 || (byte >> (code.tokens % 8)) & 1 == 1 {
+        if number == 0 || byte & *BITS.get(code.tokens % 8)? != 0 {
             code.usual.as_slice().get(state).copied()
         } else {
             None
@@ -249,7 +266,7 @@ impl Graph<'_> {
                 self.put_name(out, left);
             }
             out.put(" -> ");
-            self.put_body(out, *item, ".", false);
+            self.put_body(out, *item, ".");
             if item.rule > 0 && is_complete(grammar, *item) {
                 out.put(" { ");
                 for token in (0..token_count(grammar)).rev() {
@@ -309,7 +326,7 @@ impl Graph<'_> {
         }
         put_head(&mut out, end);
         let dot = body_of(grammar_of(self.tables), 0).len();
-        self.put_item(&mut out, Item { rule: 0, dot }, true, None);
+        self.put_item(&mut out, Item { rule: 0, dot }, None);
         out.put("\"]\n");
         put_reduction(&mut out, (end, 0), None, "", "1");
         out.put("}\n");

@@ -97,7 +97,7 @@ fn texts_of<'a>(
 /// Adds the graphs that are wanted of a grammar file to texts.
 fn add_graphs<'a>(
     given: Given<'_>,
-    mut graph: Graph<'_>,
+    graph: Graph<'_>,
     file: &File,
     names: &'a Names,
     texts: &mut Vec<Text<'a>>,
@@ -108,9 +108,9 @@ fn add_graphs<'a>(
         texts.push(Text { path, bytes })?;
     }
     if given.old_graph {
-        graph.is_bison = false;
+        let is_bison = false;
         let path = names.old_graph.as_str();
-        let bytes = graph.old_text(&names.stem)?;
+        let bytes = Graph { is_bison, ..graph }.old_text(&names.stem)?;
         texts.push(Text { path, bytes })?;
     }
     Ok(())

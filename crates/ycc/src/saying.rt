@@ -199,7 +199,7 @@ fn put_what(out: &mut Output, what: What<'_>) {
 }
 
 /// Whether conflicts are found.
-fn is_conflict(what: What<'_>) -> bool {
+pub fn is_conflict(what: What<'_>) -> bool {
     matches!(
         what,
         What::Shifts(_)

@@ -1,8 +1,9 @@
 //! Warnings and errors of a grammar file that is read: which there are, and which are told.
 
 use crate::ending::{Ending, File};
+use crate::examples::tell_examples;
 use crate::reading::Reading;
-use crate::saying::{diagnostic_of, put_counts};
+use crate::saying::{diagnostic_of, is_conflict, put_counts};
 use std::alloc::Global;
 use std::mem;
 use yexplain::reads::Made;
@@ -217,7 +218,12 @@ fn end(
     found.sort_by_key(|finding| finding.at.map_or(0, |at| at.saturating_add(1)))?;
     read.find_conflicts(rt.alloc(), wanted.is_bison, &mut found)?;
     let (is_refused, is_told) = tell(rt, file, wanted, &found)?;
-    if is_refused {
+    let telling = wanted.kinds.telling(Kind::Counterexamples, false);
+    let has_conflicts = found.iter().any(|it| is_conflict(it.what));
+    if has_conflicts && telling != Telling::Not {
+        tell_examples(rt, file, telling)?;
+    }
+    if is_refused || (has_conflicts && telling == Telling::Error) {
         Err(Ending::Refused)
     } else {
         Ok(is_told)

@@ -6,6 +6,7 @@ use std::io::{self, ErrorKind, Read, Write};
 use std::rt::Files;
 use ydiagnostics::checking::{self, run_checking};
 use ydiagnostics::format::Format;
+use ydiagnostics::late::Defaults;
 use ydiagnostics::messaged::Messaged;
 use yfiles::diagnostic::Diagnostics;
 use yfiles::reading::Limited;
@@ -25,12 +26,13 @@ pub struct Asked<'a> {
 }
 
 impl Asked<'_> {
-    /// Writes the verdict on an input, and gives its exit status.
+    /// Writes the verdict on an input, and gives its exit status; of a rejection also where it is
+    /// detected late.
     fn put_verdict<W: Write>(
         self,
         alloc: Global,
         out: &mut W,
-        told: &Messaged,
+        (told, defaults): (&Messaged, &mut Defaults),
         path: &str,
         input: &Input,
     ) -> io::Result<u8> {
@@ -41,7 +43,15 @@ impl Asked<'_> {
         }
         let message = told.message(alloc, input, &verdict)?;
         let message = message.as_ref().map(Vec::as_slice);
-        verdict.put(alloc, out, language.spoken(), (path, input), message)
+        let spoken = language.spoken();
+        let Some(mut one) = verdict.diagnostic(alloc, spoken, path, input, message)? else {
+            return verdict.put(alloc, out, spoken, (path, input), message);
+        };
+        if let Some(late) = defaults.late(alloc, &language.opened.tables, &verdict)? {
+            one.help(late.text(alloc)?)?;
+        }
+        one.put(out, "ydebug")?;
+        Ok(1)
     }
 }
 
@@ -50,13 +60,16 @@ impl<F: Files + AllocGlobal, R: Read, E: Write> Given<'_, F, R, E> {
     fn put_input<W: Write>(
         &mut self,
         asked: Asked<'_>,
-        told: &Messaged,
+        (told, defaults): (&Messaged, &mut Defaults),
         path: &str,
         out: &mut W,
     ) -> io::Result<u8> {
         let most = asked.inputs.most;
         match self.read_input(&told.language, Limited { path, most })? {
-            Ok(input) => asked.put_verdict(self.rt.alloc(), out, told, path, &input),
+            Ok(input) => {
+                let by = (told, defaults);
+                asked.put_verdict(self.rt.alloc(), out, by, path, &input)
+            }
             Err(fault) => {
                 if asked.plain {
                     return fault.put_plain(out);
@@ -74,9 +87,9 @@ impl<F: Files + AllocGlobal, R: Read, E: Write> Given<'_, F, R, E> {
         told: &Messaged,
         out: &mut W,
     ) -> io::Result<u8> {
-        let mut status = 0;
+        let (mut status, mut defaults) = (0, Defaults::new());
         for path in asked.inputs.inputs {
-            let ended = match self.put_input(asked, told, path, out) {
+            let ended = match self.put_input(asked, (told, &mut defaults), path, out) {
                 Err(error) if error.kind() == ErrorKind::OutOfMemory => {
                     writeln!(out, "{path}: no memory")?;
                     3

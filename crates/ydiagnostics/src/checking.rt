@@ -3,6 +3,7 @@
 use crate::document::Said;
 use crate::format::Format;
 use crate::inputs::{InputSheet, answer_of};
+use crate::late::Defaults;
 use crate::messaged::Messaged;
 use std::alloc::{AllocError, Global};
 use std::io::{self, Read, Write};
@@ -49,7 +50,7 @@ impl Asked<'_> {
         self,
         rt: &F,
         stdin: &mut R,
-        (messaged, told): (&Messaged, &mut Diagnostics),
+        (messaged, told, defaults): (&Messaged, &mut Diagnostics, &mut Defaults),
         path: &str,
     ) -> io::Result<(InputSheet, u8)> {
         let (alloc, most) = (rt.alloc(), self.most);
@@ -72,7 +73,8 @@ impl Asked<'_> {
         let message = messaged.message(alloc, &input, &verdict)?;
         let message = message.as_ref().map(Vec::as_slice);
         let (source, spoken) = ((path, source.as_slice()), language.spoken());
-        answer_of(alloc, told, spoken, source, (&input, &verdict), message)
+        let late = defaults.late(alloc, &opened.tables, &verdict)?;
+        answer_of(alloc, told, spoken, source, (&input, &verdict, late), message)
     }
 }
 
@@ -118,8 +120,10 @@ pub fn run_checking<F: Files + AllocGlobal, R: Read, W: Write>(
         }
     };
     let (mut sheets, mut status) = (Vec::new(alloc), 0);
+    let mut defaults = Defaults::new();
     for path in asked.inputs {
-        let (sheet, ended) = asked.take(rt, stdin, (&messaged, &mut told), path)?;
+        let by = (&messaged, &mut told, &mut defaults);
+        let (sheet, ended) = asked.take(rt, stdin, by, path)?;
         sheets.push(sheet).map_err(AllocError::from)?;
         status = ended.max(status);
     }

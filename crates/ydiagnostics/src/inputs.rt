@@ -1,6 +1,7 @@
 //! Verdicts on inputs.
 
 use crate::kinds::names_of;
+use crate::late::Late;
 use serde::Serialize;
 use std::alloc::Global;
 use std::io;
@@ -27,12 +28,16 @@ pub struct InputSheet {
     /// The tokens that can come there, and those of which that can't be told.
     expected: Vec<String>,
     unknown: Vec<String>,
+    /// Where a parser with default reductions detects the error, where that is another state.
+    late: Option<Late>,
 }
 
 impl Drop for InputSheet {
     // A call in each owner, which keeps their proofs short.
     fn drop(self) {
-        let_go!(self: InputSheet { file, verdict, steps, number, token, expected, unknown });
+        let_go!(self: InputSheet {
+            file, verdict, steps, number, token, expected, unknown, late
+        });
     }
 }
 
@@ -47,6 +52,7 @@ impl InputSheet {
             token: None,
             expected: Vec::new(alloc),
             unknown: Vec::new(alloc),
+            late: None,
         })
     }
 
@@ -73,17 +79,17 @@ impl InputSheet {
     }
 }
 
-/// What is said of an input of these bytes, with a message for its error, where there is one, and
-/// the exit status where nothing else is said.
+/// What is said of an input of these bytes, with where its error is detected late, a message for
+/// it, where there is one, and the exit status where nothing else is said.
 pub fn answer_of(
     alloc: Global,
     told: &mut Diagnostics,
     spoken: Spoken<'_>,
     (path, source): (&str, &[u8]),
-    (input, verdict): (&Input, &Verdict),
+    (input, verdict, late): (&Input, &Verdict, Option<Late>),
     message: Option<&[u8]>,
 ) -> io::Result<(InputSheet, u8)> {
-    let sheet = InputSheet::of(alloc, spoken.grammar, path, verdict)?;
+    let mut sheet = InputSheet::of(alloc, spoken.grammar, path, verdict)?;
     let Some(mut one) = verdict.diagnostic(alloc, spoken, path, input, message)? else {
         return Ok((sheet, 0));
     };
@@ -91,6 +97,10 @@ pub fn answer_of(
         let at = word_place(source, rejection.number).unwrap_or(source.len());
         one.spot = Some(Place { path, source, at }.spot());
     }
+    if let Some(late) = &late {
+        one.help(late.text(alloc)?)?;
+    }
+    sheet.late = late;
     told.add(one)?;
     Ok((sheet, 1))
 }

@@ -4,8 +4,8 @@
 //! `format` has the forms, and `sheet` what is said of a place. `kinds` has the conflicts, `causes`
 //! those that are alike, made in a `scene`, with what `sought` finds for them and with the `hints`
 //! on them, `told` says them in words, and `common` has what many have in common. `inputs` has the
-//! verdicts, `messaged` the messages for them, and `document` writes all of it. `report` and
-//! `checking` are the runs.
+//! verdicts, `late` says where a parser with default reductions detects errors, `messaged` has the
+//! messages for them, and `document` writes all of it. `report` and `checking` are the runs.
 #![tactic(auto)]
 
 mod causes;
@@ -16,6 +16,7 @@ pub mod format;
 mod hints;
 mod inputs;
 mod kinds;
+pub mod late;
 pub mod messaged;
 pub mod report;
 mod scene;

@@ -7,6 +7,8 @@ pub enum Kind {
     ConflictsSr,
     /// Conflicts between rules alone.
     ConflictsRr,
+    /// Examples for conflicts.
+    Counterexamples,
     /// Strings that no token has.
     DanglingAlias,
     /// Directives that have another word now.
@@ -38,12 +40,13 @@ enum When {
 type Named = (Kind, &'static str, When);
 
 /// How many kinds there are.
-const COUNT: usize = 9;
+const COUNT: usize = 10;
 
 /// The kinds, by their names.
 const KINDS: [Named; COUNT] = [
     (Kind::ConflictsSr, "conflicts-sr", When::Always),
     (Kind::ConflictsRr, "conflicts-rr", When::Always),
+    (Kind::Counterexamples, "counterexamples", When::Named),
     (Kind::DanglingAlias, "dangling-alias", When::Named),
     (Kind::Deprecated, "deprecated", When::Always),
     (Kind::EmptyRule, "empty-rule", When::All),
@@ -55,8 +58,9 @@ const KINDS: [Named; COUNT] = [
 
 /// What help says of kinds.
 pub const LISTED: &str = "conflicts-sr, conflicts-rr, deprecated, other (told unless turned off);
-  empty-rule, midrule-values, precedence (told by -Wall); dangling-alias, yacc (told by their
-  names); all, none; no- before a name turns it off, error= before one makes it an error
+  empty-rule, midrule-values, precedence (told by -Wall); counterexamples, dangling-alias, yacc
+  (told by their names); all, none; no- before a name turns it off, error= before one makes it an
+  error
 ";
 
 /// What words say of a kind.
@@ -160,10 +164,6 @@ impl Kinds {
             self.all_errors = !is_off;
             return Ok(());
         }
-        // The warning about conflicts says who searches for these.
-        if name == "counterexamples" || name == "cex" {
-            return Ok(());
-        }
         let off = is_off != (name == "none");
         let word = if off { Word::Off } else { Word::On };
         if matches!(name, "" | "all" | "none" | "everything") {
@@ -175,7 +175,7 @@ impl Kinds {
             }
             return Ok(());
         }
-        let number = number_of(name)?;
+        let number = number_of(if name == "cex" { "counterexamples" } else { name })?;
         self.set(number, word, is_error);
         Ok(())
     }
@@ -198,7 +198,10 @@ impl Kinds {
     /// Whether words ask for a kind but those of conflicts.
     pub fn ask_for_more(&self) -> bool {
         for (said, (kind, _, _)) in self.told.iter().zip(&KINDS) {
-            let is_conflict = matches!(kind, Kind::ConflictsSr | Kind::ConflictsRr);
+            let is_conflict = matches!(
+                kind,
+                Kind::ConflictsSr | Kind::ConflictsRr | Kind::Counterexamples
+            );
             if !is_conflict && *said == Word::On {
                 return true;
             }

@@ -32,6 +32,8 @@ pub struct Rejection {
     pub wanted: Wanted,
     /// The state in which it is detected.
     pub state: usize,
+    /// The states of the stack at which it is, this one on top.
+    pub states: Vec<usize>,
     /// How many tokens were shifted before each entry of the stack at which it is detected, the
     /// first state of all counting as one at the bottom.
     pub starts: Vec<usize>,
@@ -53,12 +55,13 @@ impl Rejection {
         let wanted = expected(alloc, tables, &course.states)?;
         course.detect(token)?;
         let state = course.states.last().copied().unwrap_or(0);
-        let Course { starts, .. } = course;
+        let Course { starts, states, .. } = course;
         Ok(Rejection {
             number,
             token,
             wanted,
             state,
+            states,
             starts,
         })
     }

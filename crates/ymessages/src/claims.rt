@@ -87,7 +87,10 @@ fn noted_below(alloc: Global, source: &[u8], line: Span) -> Made<Option<(Span, V
         start = end.saturating_add(1);
         front = FURTHER;
     }
-    Ok(place.map(|place| (place, words)))
+    match place {
+        Some(place) => Ok(Some((place, words))),
+        None => Ok(None),
+    }
 }
 
 impl Claim {

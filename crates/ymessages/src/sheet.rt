@@ -39,7 +39,7 @@ const REASONS: [Reason; 6] = [
 fn put_word<W: Write>(page: &mut Page<W>, number: usize, word: &str) {
     let front = match number {
         0 => 0,
-        1..10 => 3,
+        1..=9 => 3,
         _ => 4,
     };
     if page

@@ -28,6 +28,8 @@ pub struct AmbiguityText<'a> {
     pub lines: &'a Lines,
     /// The trees.
     pub trees: &'a Trees,
+    /// What stands where the conflict is.
+    pub dot: &'static str,
 }
 
 /// A tree that is being drawn.
@@ -74,7 +76,8 @@ impl AmbiguityText<'_> {
         let (tokens, dot) = (sentence.tokens.as_slice(), sentence.dot);
         let before = Names(self.grammar, tokens.get(..dot).unwrap_or(tokens));
         let after = Names(self.grammar, tokens.get(dot..).unwrap_or(&[]));
-        let _ = writeln!(page, " {before} .{after}");
+        let dot = self.dot;
+        let _ = writeln!(page, "{before} {dot}{after}");
     }
 
     /// Writes where the tables refuse a sentence, where they do: what is taken loses it.
@@ -99,13 +102,15 @@ impl AmbiguityText<'_> {
             begin(page, level);
         }
         if drawn.leaves == 0 && drawn.dot == 0 {
-            page.put(". ");
+            page.put(self.dot);
+            page.put(" ");
         }
         let _ = write!(page, "{}", Name(self.grammar, symbol));
         drawn.leaves = drawn.leaves.saturating_add(1);
         drawn.line = Some(level);
         if drawn.leaves == drawn.dot {
-            page.put(" .");
+            page.put(" ");
+            page.put(self.dot);
         }
     }
 
@@ -167,13 +172,38 @@ impl AmbiguityText<'_> {
 
     /// Writes a sentence with two trees.
     pub fn put_twins<W: Write>(self, alloc: Global, page: &mut Page<W>, twins: &Twins) -> Made<()> {
-        page.put("  The grammar is ambiguous: two trees for");
+        page.put("  The grammar is ambiguous: two trees for ");
         self.put_tokens(page, &twins.sentence);
         self.put_choice(page, twins.sentence.choice, &twins.sentence);
         page.end();
         self.put_tree(alloc, page, twins.trees.0, twins.dot)?;
         self.put_choice(page, twins.second, &twins.sentence);
         page.end();
+        self.put_tree(alloc, page, twins.trees.1, twins.dot)
+    }
+
+    /// Writes a sentence with two trees as bison does.
+    pub fn put_derivations<W: Write>(
+        self,
+        alloc: Global,
+        page: &mut Page<W>,
+        twins: &Twins,
+    ) -> Made<()> {
+        let first = twins.sentence.choice;
+        let is_shift = matches!(first, Choice::Shift);
+        page.put("  Example:");
+        self.put_tokens(page, &twins.sentence);
+        page.line(if is_shift {
+            "  Shift derivation"
+        } else {
+            "  First reduce derivation"
+        });
+        self.put_tree(alloc, page, twins.trees.0, twins.dot)?;
+        page.line(if is_shift {
+            "  Reduce derivation"
+        } else {
+            "  Second reduce derivation"
+        });
         self.put_tree(alloc, page, twins.trees.1, twins.dot)
     }
 
@@ -187,6 +217,7 @@ impl AmbiguityText<'_> {
         for sentence in &answer.sentences {
             if !written.contains(&sentence.choice) {
                 self.put_choice(page, sentence.choice, sentence);
+                page.put(" ");
                 self.put_tokens(page, sentence);
                 self.put_refused(page, sentence);
                 written.push(sentence.choice)?;

@@ -7,7 +7,7 @@
 //! common, found by changes that are tried on all cells (`tried`) and by tables without a rule that
 //! others cover (`covered`), and `splitting` what mends a conflict of merged states. Both ask
 //! `changed` for the tables of a changed grammar, whose text `changed_text` writes. Lists of tokens
-//! are written and kept by `ylists`.
+//! are written and kept by `ylists`. `examples` are the counterexamples as `ycc` tells them.
 #![tactic(auto)]
 
 pub mod also;
@@ -20,6 +20,7 @@ pub mod causes;
 mod changed;
 mod changed_text;
 pub mod covered;
+pub mod examples;
 mod leading;
 mod numbers;
 pub mod offer;

@@ -90,6 +90,7 @@ impl<W: Write, F: Files + AllocGlobal + Clone + Drop> Report<'_, W, F> {
                 grammar: grammar_of(tables),
                 lines: self.lines,
                 trees: &found.trees,
+                dot: ".",
             };
             put_answers(self.alloc, self.page, text, &answers)?;
             let text = BlockText {

@@ -1,2 +1,7 @@
+%token IF ID ELSE
 %%
-s : ;
+s : IF ID s
+  | IF ID s ELSE s
+  | ID '\n'
+  | error
+  ;

@@ -1,0 +1,3 @@
+%token NUM
+%%
+sum : sum '+' NUM | NUM ;
