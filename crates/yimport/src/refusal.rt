@@ -1,7 +1,7 @@
 //! Why a file isn't imported.
 
-use std::alloc::AllocError;
-use yforeign::lexeme::{Flaw, Span, Uncut};
+use std::alloc::{AllocError, AllocFailed};
+use yforeign::lexeme::{Flaw, Span};
 
 /// What a file has that can't be imported: what each says is its `text`.
 #[derive(Clone, Copy, Drop)]
@@ -37,10 +37,10 @@ pub struct Refused {
 }
 
 /// Why there is no import.
-#[derive(Clone, Copy, Drop)]
+#[derive(Drop)]
 pub enum Trouble {
-    /// The file is refused.
-    Refused(Refused),
+    /// The file is refused for all of these, in its order.
+    Refused(Vec<Refused>),
     /// Memory ran out.
     Memory,
 }
@@ -88,14 +88,8 @@ impl From<AllocError> for Trouble {
     }
 }
 
-impl From<Uncut> for Trouble {
-    fn from(uncut: Uncut) -> Trouble {
-        match uncut {
-            Uncut::Memory => Trouble::Memory,
-            Uncut::Flaw(flaw, span) => Trouble::Refused(Refused {
-                refusal: Refusal::Flaw(flaw),
-                span,
-            }),
-        }
+impl<T: Drop> From<AllocFailed<T>> for Trouble {
+    fn from(_refused: AllocFailed<T>) -> Trouble {
+        Trouble::Memory
     }
 }
