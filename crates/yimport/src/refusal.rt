@@ -65,11 +65,15 @@ impl Refusal {
             Refusal::CodeBetween => "yacc has no code between rules",
             Refusal::EndElsewhere => {
                 "its number is 0, so it is the end, which can stand only at the end of a body of \
-                 the start symbol"
+                 the start symbol: leave it out, or give it another number that yylex returns"
             }
-            Refusal::EndAndStart => "it is the end, and the start symbol stands in a body too",
+            Refusal::EndAndStart => {
+                "it is the end, and the start symbol stands in a body too: let another start \
+                 symbol have a body of this one and the end"
+            }
             Refusal::EndAfterAction => {
-                "it is the end, and without it the action before it would be the rule's last"
+                "it is the end, and without it the action before it would be the rule's last: \
+                 write the action after it"
             }
             Refusal::SecondPrec => "a rule has one %prec",
             Refusal::NotEmpty => "this body isn't empty",
