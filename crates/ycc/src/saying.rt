@@ -122,16 +122,10 @@ fn put_symbol(out: &mut Output, what: What<'_>) {
             let words = ("nonterminal", "nonterminals");
             put_count(out, count, words, " useless in grammar");
         }
-        What::Nonterminal(name) => {
-            out.put("nonterminal useless in grammar: ");
-            // that of an action within a body is called as bison calls it
-            match name.strip_prefix(b"$$") {
-                Some(number) => out.put_pieces(&[b"$@", number]),
-                None => out.put_bytes(name),
-            }
-        }
+        What::Nonterminal(name) => out.put_pieces(&[b"nonterminal useless in grammar: ", name]),
         What::Action(number, text) => {
-            let has_value = text.windows(2).any(|part| part == b"$$".as_slice());
+            let mut parts = text.windows(2);
+            let has_value = parts.any(|part| matches!(part, b"$$" | b">$"));
             out.put("nonterminal useless in grammar: ");
             out.put(if has_value { "@" } else { "$@" });
             out.number(number);

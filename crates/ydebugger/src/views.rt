@@ -113,7 +113,12 @@ impl<W: Write> View<'_, W> {
         let near = match refusal {
             Refusal::NoCondition => near_in(self.alloc, &WORDS, name)?,
             Refusal::NoToken | Refusal::NoInput | Refusal::NoNonterminal | Refusal::NoSymbol => {
-                symbol_near(self.alloc, grammar_of(parse.session.tables()), name, refusal)?
+                symbol_near(
+                    self.alloc,
+                    grammar_of(parse.session.tables()),
+                    name,
+                    refusal,
+                )?
             }
             _ => None,
         };

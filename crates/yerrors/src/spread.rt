@@ -201,7 +201,11 @@ impl Search<'_> {
     /// Goes on from a state: over the tokens ahead, where they aren't errors, which are noted, and
     /// over its nonterminals.
     fn leave_state(&mut self, (row, level): (usize, Level), state: usize) -> Made<()> {
-        let (tokens, inputs, cost) = (token_count(grammar_of(self.ways.tables)), self.inputs, level.cost);
+        let (tokens, inputs, cost) = (
+            token_count(grammar_of(self.ways.tables)),
+            self.inputs,
+            level.cost,
+        );
         self.rows.spend(tokens);
         for token in 0..tokens {
             if !self.rows.sets.has(level.at, token) {

@@ -299,7 +299,7 @@ impl Seen<'_> {
     fn is_left_out(self, name: &[u8]) -> bool {
         for LeftOut { what, span } in &self.imported.left_out {
             let text = self.source.get(span.from..span.to);
-            if *what == Barren::Nonterminal && text == Some(name) {
+            if matches!(what, Barren::Nonterminal) && text == Some(name) {
                 return true;
             }
         }

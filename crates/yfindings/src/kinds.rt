@@ -175,7 +175,11 @@ impl Kinds {
             }
             return Ok(());
         }
-        let number = number_of(if name == "cex" { "counterexamples" } else { name })?;
+        let number = number_of(if name == "cex" {
+            "counterexamples"
+        } else {
+            name
+        })?;
         self.set(number, word, is_error);
         Ok(())
     }

@@ -7,6 +7,8 @@ use crate::walk::Walk;
 use std::alloc::Global;
 use yexplain::lines::is_inner;
 use yexplain::reads::{Made, body_of, left_of, set};
+use yforeign::lexeme::{Kind as Form, Lexeme, Span};
+use yforeign::numbers::number_of;
 use yimport::barren::{Barren, LeftOut};
 use ysymbols::{Grammar, Sym};
 
@@ -121,6 +123,36 @@ fn heads_of(seen: Seen<'_>, bodies: &[Body<'_>], places: &[usize]) -> Made<Vec<O
     Ok(heads)
 }
 
+/// What is said of a useless nonterminal whose first rule stands at a place: of an action within a
+/// body by its number among all of the file.
+fn useless_at<'a>(seen: Seen<'a>, symbol: Sym, at: usize) -> What<'a> {
+    let name = seen.name(symbol);
+    let Some(digits) = name.strip_prefix(b"$$") else {
+        return What::Nonterminal(name);
+    };
+    let mut number = number_of(digits);
+    for LeftOut { what, span } in &seen.imported.left_out {
+        let is_before = matches!(what, Barren::Action(_)) && span.from < at;
+        number = number.saturating_add(usize::from(is_before));
+    }
+    let mut text: &[u8] = b"";
+    for action in &seen.parts.actions {
+        if action.piece.at == at {
+            text = action.piece.text;
+        }
+    }
+    What::Action(number, text)
+}
+
+/// Whether sentences need the nonterminal whose name stands in a part of the file.
+fn is_needed(seen: Seen<'_>, needed: &Needed, span: Span) -> Made<bool> {
+    let kind = Form::Name;
+    Ok(match seen.symbol(&Lexeme { kind, span })? {
+        Some(symbol) => needed.symbols.get(symbol) == Some(&true),
+        None => false,
+    })
+}
+
 /// Finds useless nonterminals, at their first rules; so many more that have no rules are useless
 /// too.
 fn find_nonterminals<'a>(
@@ -134,8 +166,7 @@ fn find_nonterminals<'a>(
     for (symbol, head) in heads.iter().enumerate() {
         if let (Some(at), Some(false)) = (*head, needed.symbols.get(symbol).copied()) {
             symbols = symbols.saturating_add(1);
-            let what = What::Nonterminal(seen.name(symbol));
-            found.push(warning(Kind::Other, at, what))?;
+            found.push(warning(Kind::Other, at, useless_at(seen, symbol, at)))?;
         }
     }
     for is_needed in needed.rules.iter().skip(1) {
@@ -143,17 +174,17 @@ fn find_nonterminals<'a>(
     }
     for LeftOut { what, span } in &seen.imported.left_out {
         let text = seen.source.get(span.from..span.to).unwrap_or(&[]);
-        let (is_symbol, is_rule, what) = match what {
-            Barren::Nonterminal => (true, false, What::Nonterminal(text)),
-            Barren::Inside => (false, true, What::Empty),
-            Barren::Rule => (false, true, What::Rule),
-            Barren::Action(number) => (true, true, What::Action(*number, text)),
-        };
-        symbols = symbols.saturating_add(usize::from(is_symbol));
+        let is_rule = !matches!(what, Barren::Nonterminal);
         rules = rules.saturating_add(usize::from(is_rule));
-        if !matches!(what, What::Empty) {
-            found.push(warning(Kind::Other, span.from, what))?;
-        }
+        let what = match *what {
+            Barren::Nonterminal => What::Nonterminal(text),
+            Barren::Action(number) => What::Action(number, text),
+            Barren::Rule(span) if is_needed(seen, needed, span)? => What::Rule,
+            Barren::Rule(_) | Barren::Inside => continue,
+        };
+        let is_symbol = !matches!(what, What::Rule);
+        symbols = symbols.saturating_add(usize::from(is_symbol));
+        found.push(warning(Kind::Other, span.from, what))?;
     }
     if symbols > 0 {
         found.push(about_all(Kind::Other, What::Nonterminals(symbols)))?;

@@ -170,25 +170,29 @@ fn open_imported(
     }
 }
 
-/// Says why a file isn't imported.
+/// Says why a file isn't imported, for all that is refused of it.
 fn add_refused(
     alloc: Global,
     told: &mut Diagnostics,
     source: Source<'_>,
-    refused: Refused,
+    all: &[Refused],
 ) -> io::Result<()> {
-    let (path, source, at) = (source.path, source.bytes, refused.span.from);
-    let mut one = Diagnostic::at(alloc, Place { path, source, at }, true)?;
-    let (word, dots) = shown(source, at, refused.span.to);
-    one.subject.extend_from_slice(word)?;
-    one.subject.extend_from_slice(dots.as_bytes())?;
-    if let Refusal::NoSentence = refused.refusal {
-        one.say("start symbol ")?;
-        one.message.write_all(word)?;
-        one.say(" ")?;
+    let Source { path, bytes } = source;
+    for refused in all {
+        let (at, source) = (refused.span.from, bytes);
+        let mut one = Diagnostic::at(alloc, Place { path, source, at }, true)?;
+        let (word, dots) = shown(bytes, at, refused.span.to);
+        one.subject.extend_from_slice(word)?;
+        one.subject.extend_from_slice(dots.as_bytes())?;
+        if let Refusal::NoSentence = refused.refusal {
+            one.say("start symbol ")?;
+            one.message.write_all(word)?;
+            one.say(" ")?;
+        }
+        one.say(refused.refusal.text())?;
+        told.add(one)?;
     }
-    one.say(refused.refusal.text())?;
-    Ok(told.add(one)?)
+    Ok(())
 }
 
 /// What a file becomes; else says why it isn't imported, and gives the exit status.
@@ -206,7 +210,7 @@ fn imported_from(
     match import(alloc, bytes) {
         Ok(imported) => Ok(Ok(imported)),
         Err(refusal::Trouble::Refused(refused)) => {
-            add_refused(alloc, told, source, refused)?;
+            add_refused(alloc, told, source, &refused)?;
             Ok(Err(1))
         }
         Err(refusal::Trouble::Memory) => Err(io::Error::from(ErrorKind::OutOfMemory)),
@@ -383,15 +387,17 @@ pub fn import_of(
     if bytes.len() <= LONGEST_FILE && !matches!(trouble, Trouble::Memory) {
         match import(alloc, bytes) {
             Ok(imported) if !imported.notes.is_empty() => return Ok(Ok(imported)),
-            Err(refusal::Trouble::Refused(refused))
-                if is_foreign(bytes, trouble, refused.span.from) => {
-                add_refused(alloc, told, source, refused)?;
-                return Ok(Err(1));
+            Err(refusal::Trouble::Refused(refused)) => {
+                let first = refused.first().map_or(0, |it| it.span.from);
+                if is_foreign(bytes, trouble, first) {
+                    add_refused(alloc, told, source, &refused)?;
+                    return Ok(Err(1));
+                }
             }
             Err(refusal::Trouble::Memory) => {
                 return Err(io::Error::from(ErrorKind::OutOfMemory));
             }
-            Ok(_) | Err(refusal::Trouble::Refused(_)) => {}
+            Ok(_) => {}
         }
     }
     add_trouble(alloc, told, (path, bytes), trouble)?;

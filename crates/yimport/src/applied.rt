@@ -1,6 +1,6 @@
 //! A file with its changes made, and where what stands in it comes from.
 
-use crate::edits::{Edit, Edits, FirstTrouble};
+use crate::edits::{Edit, Edits, Lack};
 use crate::pieces::{Piece, Pieces};
 use crate::refusal::Trouble;
 use std::alloc::Global;
@@ -36,7 +36,7 @@ struct Page<'a> {
     /// Whether blanks that come next are left out.
     passing: bool,
     /// Whether memory ran out.
-    trouble: FirstTrouble,
+    trouble: Lack,
 }
 
 /// Whether a byte is a blank that ends no line.
@@ -124,7 +124,7 @@ pub fn applied(alloc: Global, changes: &mut Edits<'_>) -> Result<Changed, Troubl
         pieces: Vec::new(alloc),
         at: 0,
         passing: false,
-        trouble: FirstTrouble { first: None },
+        trouble: Lack::none(),
     };
     for edit in &changes.edits {
         page.make(edit, &changes.texts);

@@ -177,7 +177,7 @@ impl Work<'_> {
         let mut place = Place::default();
         let mut before = None;
         for (at, lexeme) in body.iter().enumerate() {
-            if self.edits.trouble.first.is_some() {
+            if self.edits.stumbles {
                 return;
             }
             let after = body.get(at.saturating_add(1)..).unwrap_or(&[]);

@@ -5,38 +5,47 @@ use crate::refusal::{Refusal, Refused, Trouble};
 use std::alloc::Global;
 use yforeign::lexeme::{Lexeme, Span};
 
-/// Remembers the first trouble, so that it need not be asked for after each step.
+/// Remembers that memory ran out, so that it need not be asked for after each step.
 ///
 /// A step that memory runs out in makes nothing, or less than it would have. The work may go on
-/// after it, since `checked` tells of the trouble before anything of it is used.
+/// after it, since `checked` says so before anything of it is used.
 #[derive(Clone, Copy, Drop)]
-pub struct FirstTrouble {
-    /// It; `None` as long as there is none.
-    pub first: Option<Trouble>,
+pub struct Lack {
+    /// Whether it did.
+    is_out: bool,
 }
 
-impl FirstTrouble {
-    /// The first trouble, where there was one.
-    pub fn checked(&self) -> Result<(), Trouble> {
-        self.first.map_or(Ok(()), Err)
+impl Lack {
+    /// As long as it didn't.
+    pub fn none() -> Lack {
+        Lack { is_out: false }
     }
 
-    /// Remembers a trouble, unless there was one before.
-    pub fn remember(&mut self, trouble: Trouble) {
-        self.first = self.first.or(Some(trouble));
+    /// A trouble, where memory ran out.
+    pub fn checked(&self) -> Result<(), Trouble> {
+        if self.is_out {
+            Err(Trouble::Memory)
+        } else {
+            Ok(())
+        }
+    }
+
+    /// Remembers that it ran out.
+    pub fn run_out(&mut self) {
+        self.is_out = true;
     }
 
     /// Puts an item at the end of a list.
     pub fn push<T: Drop>(&mut self, list: &mut Vec<T>, item: T) {
         if list.push(item).is_err() {
-            self.remember(Trouble::Memory);
+            self.run_out();
         }
     }
 
     /// Writes a text after another one.
     pub fn append(&mut self, text: &mut Vec<u8>, more: &[u8]) {
         if text.extend_from_slice(more).is_err() {
-            self.remember(Trouble::Memory);
+            self.run_out();
         }
     }
 
@@ -77,8 +86,12 @@ pub struct Edits<'a> {
     pub made: Vec<u8>,
     /// Whether what is kept goes there.
     pub moving: bool,
-    /// The first trouble: after it, none of the changes is used.
-    pub trouble: FirstTrouble,
+    /// Whether memory ran out: then none of the changes is used.
+    pub trouble: Lack,
+    /// Why the file is refused.
+    pub refused: Vec<Refused>,
+    /// Whether what else is refused of a group would be a guess.
+    pub stumbles: bool,
 }
 
 impl<'a> Edits<'a> {
@@ -93,15 +106,20 @@ impl<'a> Edits<'a> {
             moved: Vec::new(alloc),
             made: Vec::new(alloc),
             moving: false,
-            trouble: FirstTrouble { first: None },
+            trouble: Lack::none(),
+            refused: Vec::new(alloc),
+            stumbles: false,
         }
     }
 
-    /// Refuses the file for a lexeme.
+    /// Refuses the file for a lexeme, unless one of its group is misplaced.
     pub fn refuse(&mut self, refusal: Refusal, lexeme: &Lexeme) {
-        let span = lexeme.span;
-        self.trouble
-            .remember(Trouble::Refused(Refused { refusal, span }));
+        if !self.stumbles {
+            let span = lexeme.span;
+            self.trouble
+                .push(&mut self.refused, Refused { refusal, span });
+        }
+        self.stumbles = self.stumbles || matches!(refusal, Refusal::Misplaced);
     }
 
     /// Writes a text among the others.

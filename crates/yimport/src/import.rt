@@ -4,14 +4,14 @@ use crate::applied::{Changed, applied};
 use crate::barren::LeftOut;
 use crate::note::Note;
 use crate::pieces::Pieces;
-use crate::refusal::{Refusal, Trouble};
+use crate::refusal::{Refusal, Refused, Trouble};
 use crate::spelling::Spelling;
 use crate::symbols::{Ended, Expected, Numbered, Work};
 use std::alloc::Global;
 use std::collections::HashMap;
 use std::mem;
 use yforeign::groups::{Group, Head, groups_of};
-use yforeign::lexeme::{Lexeme, Span};
+use yforeign::lexeme::{Lexeme, Span, Uncut};
 use yforeign::lexer::{Lexemes, lexemes_of};
 use yforeign::survey::Survey;
 use ysymbols::let_go;
@@ -62,6 +62,7 @@ impl Work<'_> {
         let Some((first, rest)) = group.lexemes.split_first() else {
             return;
         };
+        self.edits.stumbles = false;
         match group.head {
             Head::Word(directive) => {
                 self.import_declaration(directive, group.lexemes, group.in_rules)
@@ -92,6 +93,11 @@ impl Work<'_> {
         self.list_loners(&groups)?;
         self.edits.insert_moved();
         self.edits.trouble.checked()?;
+        if !self.edits.refused.is_empty() {
+            let mut refused = mem::replace(&mut self.edits.refused, Vec::new(self.alloc));
+            refused.sort_by_key(|it| it.span.from)?;
+            return Err(Trouble::Refused(refused));
+        }
         self.changed = applied(self.alloc, &mut self.edits)?;
         self.edits.notes.sort_by_key(|note| note.span.line)?;
         Ok(())
@@ -124,7 +130,15 @@ impl Work<'_> {
 
 /// A file of bison or byacc as one that `yacc` reads.
 pub fn import(alloc: Global, source: &[u8]) -> Result<Imported, Trouble> {
-    let mut lexemes = lexemes_of(alloc, source)?;
+    let mut lexemes = match lexemes_of(alloc, source) {
+        Ok(lexemes) => lexemes,
+        Err(Uncut::Memory) => return Err(Trouble::Memory),
+        Err(Uncut::Flaw(flaw, span)) => {
+            let (refusal, mut refused) = (Refusal::Flaw(flaw), Vec::new(alloc));
+            refused.push(Refused { refusal, span })?;
+            return Err(Trouble::Refused(refused));
+        }
+    };
     let mut work = Work::new(alloc, source);
     work.run(&mut lexemes)?;
     let all = mem::replace(&mut lexemes.all, Vec::new(alloc));

@@ -52,7 +52,7 @@ impl Work<'_> {
         )
         .is_err()
         {
-            self.edits.trouble.remember(Trouble::Memory);
+            self.edits.trouble.run_out();
         }
     }
 }

@@ -1,7 +1,7 @@
 //! Why a file isn't imported.
 
-use std::alloc::AllocError;
-use yforeign::lexeme::{Flaw, Span, Uncut};
+use std::alloc::{AllocError, AllocFailed};
+use yforeign::lexeme::{Flaw, Span};
 
 /// What a file has that can't be imported: what each says is its `text`.
 #[derive(Clone, Copy, Drop)]
@@ -37,10 +37,10 @@ pub struct Refused {
 }
 
 /// Why there is no import.
-#[derive(Clone, Copy, Drop)]
+#[derive(Drop)]
 pub enum Trouble {
-    /// The file is refused.
-    Refused(Refused),
+    /// The file is refused for all of these, in its order.
+    Refused(Vec<Refused>),
     /// Memory ran out.
     Memory,
 }
@@ -65,11 +65,15 @@ impl Refusal {
             Refusal::CodeBetween => "yacc has no code between rules",
             Refusal::EndElsewhere => {
                 "its number is 0, so it is the end, which can stand only at the end of a body of \
-                 the start symbol"
+                 the start symbol: leave it out, or give it another number that yylex returns"
             }
-            Refusal::EndAndStart => "it is the end, and the start symbol stands in a body too",
+            Refusal::EndAndStart => {
+                "it is the end, and the start symbol stands in a body too: let another start \
+                 symbol have a body of this one and the end"
+            }
             Refusal::EndAfterAction => {
-                "it is the end, and without it the action before it would be the rule's last"
+                "it is the end, and without it the action before it would be the rule's last: \
+                 write the action after it"
             }
             Refusal::SecondPrec => "a rule has one %prec",
             Refusal::NotEmpty => "this body isn't empty",
@@ -88,14 +92,8 @@ impl From<AllocError> for Trouble {
     }
 }
 
-impl From<Uncut> for Trouble {
-    fn from(uncut: Uncut) -> Trouble {
-        match uncut {
-            Uncut::Memory => Trouble::Memory,
-            Uncut::Flaw(flaw, span) => Trouble::Refused(Refused {
-                refusal: Refusal::Flaw(flaw),
-                span,
-            }),
-        }
+impl<T: Drop> From<AllocFailed<T>> for Trouble {
+    fn from(_refused: AllocFailed<T>) -> Trouble {
+        Trouble::Memory
     }
 }

@@ -124,7 +124,7 @@ impl<'a> Work<'a> {
         match made {
             Ok(text) => text,
             Err(_) => {
-                self.edits.trouble.remember(Trouble::Memory);
+                self.edits.trouble.run_out();
                 Vec::new(self.alloc)
             }
         }
@@ -137,18 +137,21 @@ impl<'a> Work<'a> {
         let (name, reason) = match other_name(self.alloc, self.source, lexeme) {
             Ok(other) => other?,
             Err(_) => {
-                self.edits.trouble.remember(Trouble::Memory);
+                self.edits.trouble.run_out();
                 return None;
             }
         };
         self.edits.write(&name);
         if matches!(reason, Reason::Dash) {
-            let (source, before) = (self.source, self.renamed.get(&name));
-            let is_other = before.map_or(false, |it| it.text(source) != lexeme.text(source));
-            if is_other || is_among(&self.survey.names, &name) {
+            let (source, before) = (self.source, self.renamed.get(&name).copied());
+            if before.map_or(false, |it| it.text(source) == lexeme.text(source)) {
+                return Some(reason);
+            }
+            if before.is_some() || is_among(&self.survey.names, &name) {
                 self.edits.refuse(Refusal::NameTaken, lexeme);
-            } else if self.renamed.insert(name, *lexeme).is_err() {
-                self.edits.trouble.remember(Trouble::Memory);
+            }
+            if self.renamed.insert(name, *lexeme).is_err() {
+                self.edits.trouble.run_out();
             }
         }
         Some(reason)
@@ -183,7 +186,7 @@ impl<'a> Work<'a> {
         let key = self.made_or_trouble(key);
         let text = *text;
         if self.made.insert(key, Made { number, text }).is_err() {
-            self.edits.trouble.remember(Trouble::Memory);
+            self.edits.trouble.run_out();
         }
         number
     }

@@ -1,4 +1,5 @@
 %token A // a
+%left A
+%right A
 %%
-s : A | t ;
-t : t A ;
+s : A ;

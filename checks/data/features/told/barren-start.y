@@ -1,0 +1,7 @@
+/* bison tells: -Wno-other */
+%token A B
+%%
+s : A s | t B s
+  ;
+t : A
+  ;

@@ -1,0 +1,7 @@
+/* byacc tells: */
+%token A B
+%%
+s : A | dead B
+  ;
+dead : dead A
+  ;
