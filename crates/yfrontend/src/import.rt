@@ -375,6 +375,11 @@ fn is_barren(trouble: &Trouble<'_>) -> bool {
     }
 }
 
+/// Where the first thing stands that an import refuses.
+fn first_of(refused: &[Refused]) -> usize {
+    refused.first().map_or(0, |it| it.span.from)
+}
+
 /// What a file becomes that `yacc` refuses for this reason, where it has what only bison or byacc
 /// takes; else says why it isn't opened, and gives the exit status.
 pub fn import_of(
@@ -387,17 +392,15 @@ pub fn import_of(
     if bytes.len() <= LONGEST_FILE && !matches!(trouble, Trouble::Memory) {
         match import(alloc, bytes) {
             Ok(imported) if !imported.notes.is_empty() => return Ok(Ok(imported)),
-            Err(refusal::Trouble::Refused(refused)) => {
-                let first = refused.first().map_or(0, |it| it.span.from);
-                if is_foreign(bytes, trouble, first) {
-                    add_refused(alloc, told, source, &refused)?;
-                    return Ok(Err(1));
-                }
+            Err(refusal::Trouble::Refused(refused))
+                if is_foreign(bytes, trouble, first_of(&refused)) => {
+                add_refused(alloc, told, source, &refused)?;
+                return Ok(Err(1));
             }
             Err(refusal::Trouble::Memory) => {
                 return Err(io::Error::from(ErrorKind::OutOfMemory));
             }
-            Ok(_) => {}
+            Ok(_) | Err(refusal::Trouble::Refused(_)) => {}
         }
     }
     add_trouble(alloc, told, (path, bytes), trouble)?;

@@ -1,6 +1,7 @@
 //! Lists of tokens kept as tokens files, or as texts.
 
-use std::fs;
+use std::alloc::Global;
+use std::fs::{self, DirEntry};
 use std::io::{self, ErrorKind, Write};
 use std::rt::Files;
 use yexplain::text::{Name, Names};
@@ -112,6 +113,22 @@ pub fn are_refused<F: Files + AllocGlobal + Clone + Drop, E: Write>(
     Ok(path.is_some())
 }
 
+/// Removes a file of a folder, where its name is that of a list, and says whether that was done
+/// where it had to be.
+fn is_cleared<F: Files + Drop>(
+    rt: &F,
+    name: (&str, &str),
+    entry: io::Result<DirEntry<F, Global>>,
+) -> io::Result<bool> {
+    match entry {
+        Ok(entry) if is_of_list(name, entry.file_name()) => {
+            is_written(fs::remove_file(rt, entry.path()))
+        }
+        Err(error) if error.kind() == ErrorKind::OutOfMemory => Err(error),
+        _ => Ok(true),
+    }
+}
+
 /// Removes the lists that stand in a folder, and says whether that was done; a folder that isn't
 /// there has none.
 fn are_cleared<F: Files + AllocGlobal + Clone + Drop>(
@@ -129,14 +146,7 @@ fn are_cleared<F: Files + AllocGlobal + Clone + Drop>(
     };
     let mut are_cleared = true;
     for entry in entries {
-        let is_cleared = match entry {
-            Ok(entry) if is_of_list(name, entry.file_name()) => {
-                is_written(fs::remove_file(rt, entry.path()))?
-            }
-            Err(error) if error.kind() == ErrorKind::OutOfMemory => return Err(error),
-            _ => true,
-        };
-        are_cleared = are_cleared && is_cleared;
+        are_cleared = is_cleared(rt, name, entry)? && are_cleared;
     }
     Ok(are_cleared)
 }
