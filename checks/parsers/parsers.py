@@ -9,8 +9,9 @@ actions, code and `%union` are left out, since those of scenarios are no C; valu
 calculator of examples/calculator-c is built as C90, C99, C17 and C++17 by each compiler that is
 there, without a warning, with a trace and without, and answers as it should; a copy of it with
 another prefix is linked beside it. Parsers with messages say of each input of `ydebug errors` what
-`ydebug check --messages` says. The program of the tutorial answers as the tutorial says. The last
-line is `N passed, M failed`.
+`ydebug check --messages` says; parsers with LAC list at an error the tokens that `ydebug check`
+expects. The program of the tutorial answers as the tutorial says. The last line is
+`N passed, M failed`.
 """
 import os
 import random
@@ -20,6 +21,7 @@ import zlib
 from concurrent.futures import ThreadPoolExecutor
 from pathlib import Path
 
+from checks.parsers import lists
 from checks.parsers.messages import ENTRIES, grammars, told_of
 from checks.parsers.pairs import MOST, cases_of, pairs_of_scenarios
 from checks.scenarios import proved
@@ -208,6 +210,13 @@ def compare_said(grammar, programs, order):
                 raise Differs(f"{names}\nydebug:\n{wanted}\nthe parser:\n{made}")
 
 
+def compare_lists(grammar, cases, programs):
+    """The parser of a grammar with LAC lists at an error what `ydebug check` expects."""
+    differs = lists.difference(grammar, cases, programs)
+    if differs:
+        raise Differs(differs)
+
+
 def by_grammar(pairs, programs):
     """The cases of each grammar that no program refuses."""
     found = {}
@@ -317,12 +326,13 @@ def main(words):
     makers = {name: given.programs[name] for name in ("yacc", "ystep")}
     found = by_grammar(pairs_in(given), makers)
     jobs = [(compare, grammar, cases, ycc) for grammar, cases in found.items()]
+    jobs += [(compare_lists, grammar, cases, given.programs) for grammar, cases in found.items()]
     jobs += [(check, *more) for check, more in examples(given.programs)]
     with ThreadPoolExecutor(os.cpu_count()) as pool:
         for job, lines in zip(jobs, pool.map(wrong, jobs)):
             tally.take(job[0].__name__, lines)
-    lists = sum(map(len, found.values()))
-    print(f"{len(found)} grammars, {lists} lists of tokens, {len(jobs) - len(found)} builds")
-    if not lists:
+    count = sum(map(len, found.values()))
+    print(f"{len(found)} grammars, {count} lists of tokens, {len(jobs) - len(found)} builds")
+    if not count:
         tally.take("lists of tokens", ["there is none\n"])
     return tally.end()

@@ -1,6 +1,6 @@
 //! Messages for errors, as a file of messages has them for `ydebug errors`.
 
-use crate::ending::{Ending, tell};
+use crate::ending::{Ending, outside, tell};
 use crate::words::Given;
 use std::alloc::Global;
 use yexplain::reads::Made;
@@ -42,10 +42,18 @@ fn read_speech(
 ) -> Result<Speech, Ending> {
     let most = LONGEST_INPUT;
     let file = Limited { path, most };
-    let mut told = Diagnostics::new(rt.alloc());
-    let about = (given.grammar, tables);
-    let messages = Messages::open_with(rt, about, given.spec, file, &mut told)?;
-    told.put(&mut Steady::new(rt.stderr(), true), "ycc")?;
+    let mut errors = Steady::new(rt.stderr(), true);
+    let bytes = match file.bytes(rt) {
+        Ok(Some(bytes)) => bytes,
+        Ok(None) => {
+            file.too_long(rt, false)?.put(&mut errors, "ycc")?;
+            return Err(Ending::Refused);
+        }
+        Err(error) => return Err(outside(rt, "read", path, &error)),
+    };
+    let (about, mut told) = ((given.grammar, tables), Diagnostics::new(rt.alloc()));
+    let messages = Messages::by_spec(rt, about, given.spec, (path, bytes), &mut told)?;
+    told.put(&mut errors, "ycc")?;
     match messages {
         Ok(messages) => Ok(spoken(rt.alloc(), tables, &messages)?),
         Err(1) => Err(Ending::Refused),

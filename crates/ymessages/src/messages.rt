@@ -159,19 +159,16 @@ impl Messages {
         Messages::either(rt.alloc(), inputs, file.path, bytes, told)
     }
 
-    /// Opens a file likewise for the tables of a grammar file. Its inputs are cut by the SPEC at a
-    /// path, where there is one, or are all tokens; without it, those of texts stand below them.
-    pub fn open_with<F: Files + AllocGlobal>(
+    /// A file of these bytes likewise, by its path, for the tables of a grammar file. Its inputs are
+    /// cut by the SPEC at a path, where there is one, or are all tokens; without it, those of texts
+    /// stand below them.
+    pub fn by_spec<F: Files + AllocGlobal>(
         rt: &F,
         (grammar, tables): (&str, &Tables),
         spec: Option<&str>,
-        file: Limited<'_>,
+        (path, bytes): (&str, Vec<u8>),
         told: &mut Diagnostics,
     ) -> io::Result<Result<Messages, u8>> {
-        let bytes = match file.bytes_or_status(rt, false, told)? {
-            Ok(bytes) => bytes,
-            Err(status) => return Ok(Err(status)),
-        };
         let Some(spec) = spec else {
             let lexer = None;
             let noted = true;
@@ -180,7 +177,7 @@ impl Messages {
                 lexer,
                 noted,
             };
-            return Messages::checked(rt.alloc(), inputs, file.path, bytes, told);
+            return Messages::checked(rt.alloc(), inputs, path, bytes, told);
         };
         match read_lexer(rt, tables, spec)? {
             Ok(lexer) => {
@@ -191,7 +188,7 @@ impl Messages {
                     lexer,
                     noted,
                 };
-                Messages::either(rt.alloc(), inputs, file.path, bytes, told)
+                Messages::either(rt.alloc(), inputs, path, bytes, told)
             }
             Err(fault) => fault.tell_of(rt, told, grammar, tables).map(Err),
         }

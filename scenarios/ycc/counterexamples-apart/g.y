@@ -1,0 +1,4 @@
+%token NUM LE
+%%
+list : %empty | list line ;
+line : { } NUM ';' | NUM LE NUM ;
