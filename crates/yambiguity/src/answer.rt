@@ -225,6 +225,25 @@ impl Ambiguities {
         Ok(answer)
     }
 
+    /// A sentence for each of two rivals, where one is found.
+    pub fn each(
+        &mut self,
+        tables: &Tables,
+        finder: &mut Finder,
+        rivals: Rivals,
+    ) -> Made<Vec<Sentence>> {
+        let mut answer = Answer {
+            twins: None,
+            sentences: Vec::new(self.alloc),
+            steps: None,
+        };
+        for choice in [rivals.first, Choice::Reduce(rivals.second)] {
+            self.add_alone(tables, finder, (rivals, choice), &mut answer)?;
+        }
+        let Answer { sentences, .. } = answer;
+        Ok(sentences)
+    }
+
     /// Adds a sentence for a rival, on the shortest way on which it can be chosen.
     fn add_alone(
         &mut self,

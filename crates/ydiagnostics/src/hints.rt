@@ -9,7 +9,7 @@ use yexplain::mends::{Mend, mend_of};
 use yexplain::reads::{Made, grammar_of};
 use yexplain::rivals::Kinds;
 use yexplain::text::Name;
-use yreports::blocks::Class;
+use yreports::blocks::{Class, Loss};
 use ysymbols::{Associativity, Sym};
 
 /// The words of lines.
@@ -44,6 +44,11 @@ pub struct EditSheet {
     end_line: usize,
     end_column: usize,
     text: String,
+    /// On how many sentences it was tried, how many of these are refused with it, and the first of
+    /// them; `None` where it wasn't tried.
+    tried: Option<usize>,
+    lost: usize,
+    example: Vec<String>,
 }
 
 /// How a conflict is settled otherwise.
@@ -142,7 +147,7 @@ fn said_of(hint: Hint) -> Said {
 
 impl Scene<'_> {
     /// The change of the text that a mend is, where the place of the mark is known.
-    fn edit(self, mend: Mend) -> Made<Option<EditSheet>> {
+    fn edit(self, mend: Mend, loss: Option<&Loss>) -> Made<Option<EditSheet>> {
         let Some(column) = mend.at.column else {
             return Ok(None);
         };
@@ -160,6 +165,15 @@ impl Scene<'_> {
                 format!(in alloc; "{word} {first}\n{word} {second}\n")?
             }
         };
+        let mut example = Vec::new(alloc);
+        let (mut tried, mut lost) = (None, 0);
+        if let Some(loss) = loss {
+            for token in &loss.first {
+                example.push(named(alloc, grammar, *token)?)?;
+            }
+            tried = Some(loss.short.saturating_add(loss.longer));
+            lost = loss.lost;
+        }
         Ok(Some(EditSheet {
             action: match mend.deed {
                 Deed::Shift => "shift",
@@ -171,6 +185,9 @@ impl Scene<'_> {
             end_line: mend.at.line,
             end_column: column,
             text,
+            tried,
+            lost,
+            example,
         }))
     }
 
@@ -190,7 +207,8 @@ impl Scene<'_> {
         for deed in [Deed::Shift, Deed::Reduce] {
             let mend = mend_of(asked, hint, deed).filter(|_| self.shown.is_plain);
             if let Some(mend) = mend {
-                if let Some(edit) = self.edit(mend)? {
+                let loss = class.losses.iter().find(|it| it.deed == deed);
+                if let Some(edit) = self.edit(mend, loss)? {
                     edits.push(edit)?;
                 }
             }

@@ -8,6 +8,7 @@ use yparse::Session;
 use yreports::also::try_hints;
 use yreports::ambiguity::block_answers;
 use yreports::blocks::{Blocks, blocks_of};
+use yreports::lost::try_choices;
 use ysearch::finding::{Finding, Seeker};
 use ysearch::groups::Conflicts;
 
@@ -47,6 +48,7 @@ pub fn sought_for(
         conflicts,
         &mut sought.blocks,
     )?;
+    try_choices(alloc, session.tables(), lines, &mut sought.blocks)?;
     let mut seeker = Seeker::new(alloc, session)?;
     for (kind, group) in conflicts.groups.iter().take(MOST_SOUGHT) {
         if !seeker.finder.has_steps() {

@@ -11,6 +11,7 @@ use yexplain::text::{Name, Names, RuleText};
 use yfiles::diagnostic::{Diagnostic, Diagnostics, Note, Severity};
 use yfiles::place::Spot;
 use yreports::blocks::{Block, category_of};
+use yreports::lost::put_losses;
 use yreports::offer::Offer;
 use ysearch::finding::Finding;
 use ysearch::groups::{Conflicts, Group, Kind};
@@ -168,6 +169,7 @@ impl Scene<'_> {
             entry
                 .cell(self.tables, self.shown.lines)
                 .put_hint(&mut text)?;
+            put_losses(&mut text, grammar_of(self.tables), &class.losses)?;
             for line in text
                 .split(|byte| *byte == b'\n')
                 .filter(|line| !line.is_empty())

@@ -36,6 +36,18 @@ fn are_both(finding: &Finding, rivals: Rivals) -> Option<bool> {
     }
 }
 
+/// What is taken in the first cell of a conflict, and a rule that isn't.
+pub fn rivals_of(entry: &Entry, rule: usize) -> Rivals {
+    Rivals {
+        cell: Cell {
+            state: entry.group.state,
+            token: entry.kind.token,
+        },
+        first: entry.kind.taken().map_or(Choice::Shift, Choice::Reduce),
+        second: rule,
+    }
+}
+
 /// What can be found for a conflict: for what is taken and each of the first rules beside it, up to
 /// one with which there is a sentence with two trees; a sentence for each where these are wanted.
 fn answers_of(
@@ -47,14 +59,7 @@ fn answers_of(
 ) -> Made<Vec<Answer>> {
     let mut answers = Vec::new(alloc);
     for rule in entry.kind.others().iter().take(MOST_RULES) {
-        let rivals = Rivals {
-            cell: Cell {
-                state: entry.group.state,
-                token: entry.kind.token,
-            },
-            first: entry.kind.taken().map_or(Choice::Shift, Choice::Reduce),
-            second: *rule,
-        };
+        let rivals = rivals_of(entry, *rule);
         let Some(are_both) = are_both(finding, rivals) else {
             continue;
         };

@@ -1,6 +1,7 @@
 //! A block of conflicts as it is written, but for the lists of tokens that get to it.
 
 use crate::blocks::{Block, Class, Entry};
+use crate::lost::put_losses;
 use crate::numbers::Ranges;
 use crate::offer::Offer;
 use std::io::Write;
@@ -80,6 +81,10 @@ impl BlockText<'_> {
         if let (true, Some(entry)) = (self.offer.has_hints(), class.entries.first()) {
             let _ = entry.cell(self.tables, self.lines).put_hint(page);
             put_also(page, class);
+            if !class.losses.is_empty() {
+                page.put("  ");
+                let _ = put_losses(page, grammar_of(self.tables), &class.losses);
+            }
         }
     }
 

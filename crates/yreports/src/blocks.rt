@@ -1,11 +1,13 @@
 //! Conflicts in blocks: those of one state between the same rivals, with what settled them.
 
 use std::alloc::Global;
+use yexplain::advice::Deed;
 use yexplain::lines::Lines;
 use yexplain::reads::Made;
 use yexplain::why::{Question, Settled};
 use yfiles::category::{Categories, Category};
 use ysearch::groups::{Conflicts, Group, Kind};
+use ysymbols::Sym;
 use ytables::Tables;
 
 /// The most kinds that are put into blocks.
@@ -25,6 +27,21 @@ pub struct Entry {
     pub group: Group,
 }
 
+/// What came of a choice on sentences that are accepted without it.
+#[derive(Drop)]
+pub struct Loss {
+    /// The choice.
+    pub deed: Deed,
+    /// On how many sentences it was tried, which are all of up to so many tokens.
+    pub short: usize,
+    pub most: usize,
+    /// On how many longer ones.
+    pub longer: usize,
+    /// How many of all these it refuses, and the first of them.
+    pub lost: usize,
+    pub first: Vec<Sym>,
+}
+
 /// Conflicts of a block that are settled in one way.
 #[derive(Drop)]
 pub struct Class {
@@ -34,6 +51,8 @@ pub struct Class {
     pub settled: Settled,
     /// The conflicts, by their numbers, that the hint for the first of these settles beside it.
     pub also: Vec<usize>,
+    /// What came of the choices that the hint offers, on sentences.
+    pub losses: Vec<Loss>,
 }
 
 /// Conflicts of one state between the same rivals.
@@ -90,6 +109,7 @@ impl Block {
             entries: Vec::from_slice(alloc, &[entry])?,
             settled,
             also: Vec::new(alloc),
+            losses: Vec::new(alloc),
         })?;
         Ok(())
     }

@@ -1,5 +1,6 @@
-//! A grammar without one of its rules, or with a copy of a nonterminal: written as a text without
-//! actions, which is read anew, so that its own tables tell how many conflicts it has.
+//! A grammar without one of its rules, with a copy of a nonterminal, or with further precedences:
+//! written as a text without actions, which is read anew, so that its own tables tell how many
+//! conflicts it has, and which sentences they accept.
 
 use crate::changed_text::{Change, Changed};
 use std::alloc::{AllocError, Global};
@@ -28,14 +29,14 @@ fn tables_of(alloc: Global, text: &[u8]) -> Made<Option<Tables>> {
     }
 }
 
-/// How many conflicts the tables of a grammar have after a change; `None` where what comes of it is
-/// no grammar, or one with too many states.
-pub fn conflicts_after(
+/// The tables of a grammar after a change; `None` where what comes of it is no grammar, or one with
+/// too many states.
+pub fn tables_after(
     alloc: Global,
     grammar: &Grammar,
     lines: &Lines,
     change: Change,
-) -> Made<Option<usize>> {
+) -> Made<Option<Tables>> {
     let changed = Changed {
         grammar,
         lines,
@@ -45,7 +46,18 @@ pub fn conflicts_after(
     if changed.put(&mut text).is_err() {
         return Err(AllocError);
     }
-    match tables_of(alloc, &text)? {
+    tables_of(alloc, &text)
+}
+
+/// How many conflicts the tables of a grammar have after a change; `None` where what comes of it is
+/// no grammar, or one with too many states.
+pub fn conflicts_after(
+    alloc: Global,
+    grammar: &Grammar,
+    lines: &Lines,
+    change: Change,
+) -> Made<Option<usize>> {
+    match tables_after(alloc, grammar, lines, change)? {
         Some(tables) => {
             let counts = tables.conflicts();
             let all = counts.shift_reduce.saturating_add(counts.reduce_reduce);

@@ -12,6 +12,15 @@ fn put_name<W: Write>(out: &mut W, grammar: &Grammar, symbol: Sym) -> io::Result
     out.write_all(name_of(grammar, symbol))
 }
 
+/// The directive for lines of precedence.
+fn directive_of(kind: Associativity) -> &'static str {
+    match kind {
+        Associativity::Left => "%left",
+        Associativity::Right => "%right",
+        Associativity::Nonassoc => "%nonassoc",
+    }
+}
+
 /// Writes the tokens of a level.
 fn put_level<W: Write>(out: &mut W, grammar: &Grammar, level: usize) -> io::Result<()> {
     let mut is_begun = false;
@@ -19,12 +28,7 @@ fn put_level<W: Write>(out: &mut W, grammar: &Grammar, level: usize) -> io::Resu
         match level_of(grammar, token) {
             Some(it) if it.level == level => {
                 if !is_begun {
-                    let directive = match it.kind {
-                        Associativity::Left => "%left",
-                        Associativity::Right => "%right",
-                        Associativity::Nonassoc => "%nonassoc",
-                    };
-                    out.write_all(directive.as_bytes())?;
+                    out.write_all(directive_of(it.kind).as_bytes())?;
                     is_begun = true;
                 }
                 put_name(out, grammar, token)?;
@@ -58,6 +62,17 @@ fn put_declarations<W: Write>(out: &mut W, grammar: &Grammar) -> io::Result<()> 
     Ok(())
 }
 
+/// Writes a line of precedence for one token.
+fn put_line<W: Write>(
+    out: &mut W,
+    grammar: &Grammar,
+    kind: Associativity,
+    token: Sym,
+) -> io::Result<()> {
+    write!(out, "\n{}", directive_of(kind))?;
+    put_name(out, grammar, token)
+}
+
 /// A change of a grammar.
 #[derive(Clone, Copy, Drop, PartialEq, Eq)]
 pub enum Change {
@@ -69,6 +84,15 @@ pub enum Change {
         symbol: Sym,
         /// The rule.
         rule: usize,
+    },
+    /// With one or two lines of precedence after all others.
+    Lines {
+        /// Their word.
+        kind: Associativity,
+        /// The token of the first line.
+        first: Sym,
+        /// The token of the second one, where there is one.
+        second: Option<Sym>,
     },
 }
 
@@ -122,6 +146,17 @@ impl Changed<'_> {
     pub fn put<W: Write>(self, out: &mut W) -> io::Result<()> {
         let (grammar, change) = (self.grammar, self.change);
         put_declarations(out, grammar)?;
+        if let Change::Lines {
+            kind,
+            first,
+            second,
+        } = change
+        {
+            put_line(out, grammar, kind, first)?;
+            if let Some(second) = second {
+                put_line(out, grammar, kind, second)?;
+            }
+        }
         out.write_all(b"\n%%\n")?;
         for rule in 1..grammar.rules() {
             if change != Change::Without(rule) && !is_inner(grammar, rule) {

@@ -2,7 +2,8 @@
 //!
 //! `blocks` has the conflicts of one state between the same rivals together (written by
 //! `block_text`), `ambiguity` whole sentences for their rivals (written by `ambiguity_text`),
-//! `offer` whether hints are offered, `also` what else a hint settles, `leading` the items of a
+//! `offer` whether hints are offered, `also` what else a hint settles, `lost` which sentences a
+//! choice loses (of few tokens: `short`), `leading` the items of a
 //! state that lead to a shift, `numbers` the numbers of conflicts, `causes` what many have in
 //! common, found by changes that are tried on all cells (`tried`) and by tables without a rule that
 //! others cover (`covered`), and `splitting` what mends a conflict of merged states. Both ask
@@ -22,9 +23,11 @@ mod changed_text;
 pub mod covered;
 pub mod examples;
 mod leading;
+pub mod lost;
 mod numbers;
 pub mod offer;
 pub mod report;
+mod short;
 mod splitting;
 mod tried;
 mod unused;

@@ -9,6 +9,7 @@ use crate::blocks::{Block, Blocks, blocks_of, category_of, shown_of};
 use crate::cause_text::CauseText;
 use crate::causes::causes_of;
 use crate::leading::put_leading;
+use crate::lost::try_choices;
 use crate::offer::Offer;
 use crate::splitting::{MOST_SPLITS, split_of};
 use crate::warnings::warnings_of;
@@ -220,6 +221,7 @@ fn put_lists<'a, W: Write, F: Files + AllocGlobal + Clone + Drop>(
         report.folder.make()?;
         let mut blocks = blocks_of(report.alloc, session.tables(), lines, &found)?;
         try_hints(report.alloc, session.tables(), lines, &found, &mut blocks)?;
+        try_choices(report.alloc, session.tables(), lines, &mut blocks)?;
         let first = report.put_blocks(session, &blocks)?;
         report.put_rest(session.tables(), &found, first, blocks.kinds);
     }
