@@ -182,12 +182,12 @@ impl Fault {
 
     /// Says what is wrong, and gives the exit status. The grammar of the language has these tables,
     /// and this is the path of its file.
-    pub fn tell_of<F: Files + AllocGlobal>(
+    pub fn tell_of<'a, F: Files + AllocGlobal>(
         &self,
         rt: &F,
         told: &mut Diagnostics,
-        path: &str,
-        tables: &Tables,
+        path: &'a str,
+        tables: &'a Tables,
     ) -> io::Result<u8> {
         let about = About {
             path,
