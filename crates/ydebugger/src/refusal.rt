@@ -80,7 +80,7 @@ impl fmt::Display for Grouped {
 
 /// The arguments of a command are not those that it takes.
 pub fn misused(verb: Verb) -> Refusal {
-    Refusal::Usage(verb.usage())
+    Refusal::Usage(verb.told().0)
 }
 
 /// Writes a refusal.

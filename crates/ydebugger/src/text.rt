@@ -25,12 +25,7 @@ pub fn put_ahead<W: Write>(page: &mut Page<W>, parse: &Parse) {
 
 /// An upcoming token: its place, or that it was inserted, and its name; its line and column too,
 /// where it was read from a text.
-fn put_token<W: Write>(
-    page: &mut Page<W>,
-    parse: &Parse,
-    spots: &mut Spots<'_>,
-    index: usize,
-) {
+fn put_token<W: Write>(page: &mut Page<W>, parse: &Parse, spots: &mut Spots<'_>, index: usize) {
     let (token, number) = upcoming_token(&parse.session, index);
     if number == 0 {
         page.put("      +");

@@ -1,6 +1,6 @@
 //! The commands: their words, how they are used, and what they do.
 
-/// A command; what each does is its `about`.
+/// A command; `told` says what each does.
 #[derive(Clone, Copy, PartialEq, Eq)]
 pub enum Verb {
     Step,
@@ -91,14 +91,9 @@ impl Verb {
         }
     }
 
-    /// How it is written.
-    pub fn usage(self) -> &'static str {
-        self.said().split_once(": ").map_or("", |(usage, _)| usage)
-    }
-
-    /// What it does, in a line.
-    pub fn about(self) -> &'static str {
-        self.said().split_once(": ").map_or("", |(_, about)| about)
+    /// How it is written, and what it does, in a line.
+    pub fn told(self) -> (&'static str, &'static str) {
+        self.said().split_once(": ").unwrap_or(("", ""))
     }
 
     /// More on it, or nothing.

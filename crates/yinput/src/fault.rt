@@ -59,7 +59,10 @@ fn ungiven(
     let mention = mentions.find(|it| it.symbol == token);
     let first = match mention {
         Some(it) => it.spot,
-        None => Spot { line: 1, column: None },
+        None => Spot {
+            line: 1,
+            column: None,
+        },
     };
     let name = Name(grammar_of(&opened.tables), token);
     let mut one = Diagnostic::new(alloc, Some(grammar.path), Some(first))?;

@@ -40,11 +40,6 @@ fn unwritten<T>() -> io::Result<T> {
     refused(ErrorKind::ReadOnlyFilesystem)
 }
 
-/// Whether a file is to be written.
-fn is_writing(how: &OpenOptions) -> bool {
-    how.asks_write() || how.asks_append() || how.asks_create() || how.asks_create_new()
-}
-
 impl<'s, 'a> Shelf<'s, 'a> {
     /// The file of a name.
     fn file(self, path: &str) -> Option<File<'a>> {
@@ -142,7 +137,8 @@ impl<'s, 'a> Files for Shelf<'s, 'a> {
 
     fn open_file(&self, how: &OpenOptions, path: &str) -> io::Result<Open<'a>> {
         how.check()?;
-        if is_writing(how) {
+        let is_made = how.asks_create() || how.asks_create_new();
+        if is_made || how.asks_write() || how.asks_append() {
             unwritten()
         } else {
             self.open(path)

@@ -153,7 +153,13 @@ impl Needs {
             let Some(left) = self.lefts.get(number).copied() else {
                 break;
             };
-            if self.take_all(automaton, state, shortest.places.of(left), token, &mut found)? {
+            if self.take_all(
+                automaton,
+                state,
+                shortest.places.of(left),
+                token,
+                &mut found,
+            )? {
                 found.clear();
                 found.push(Need::Free)?;
                 break;

@@ -156,7 +156,9 @@ impl Others {
             } else if let Some((way, _)) = self.way.take() {
                 self.sentences.add(shortest, way)?;
             }
-            finder.steps.spend(self.sentences.symbols.saturating_sub(before));
+            finder
+                .steps
+                .spend(self.sentences.symbols.saturating_sub(before));
             if found.is_some() {
                 return Ok(found);
             }

@@ -8,7 +8,7 @@ use ytables::{Action, Tables};
 
 /// A filled cell, which is a line `a` or `d` of a table, unless it reduces at `error`: a state and
 /// a token.
-#[derive(Clone, Copy, Drop, PartialEq, Eq)]
+#[derive(Clone, Copy, Drop)]
 pub struct Cell {
     /// The state.
     pub state: usize,
