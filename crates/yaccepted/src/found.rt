@@ -31,19 +31,6 @@ struct Pairs {
     all: IndexMap<Pair, usize>,
 }
 
-/// The rules of a cell that don't lose to its shift, by their order, and nothing where there is
-/// none of this place.
-fn rules_of(alloc: Global, tables: &Tables, cell: (usize, Sym)) -> Made<Vec<usize>> {
-    let shifts = shift_of(tables, cell.0, cell.1).is_some();
-    let mut rules = Vec::new(alloc);
-    for candidate in candidates_of(tables, cell.0, cell.1) {
-        if !shifts || candidate.standing.class() != Class::Lose {
-            rules.push(candidate.rule)?;
-        }
-    }
-    Ok(rules)
-}
-
 impl Pairs {
     /// Whether there are too many.
     fn is_full(&self) -> bool {
@@ -71,7 +58,14 @@ impl Pairs {
         let grammar = grammar_of(tables);
         for conflict in conflicts_of(tables, state) {
             let cell = (state, conflict.token);
-            let rules = rules_of(alloc, tables, cell)?;
+            // the rules that don't lose to the shift, where there is one
+            let shifts = shift_of(tables, state, conflict.token).is_some();
+            let mut rules = Vec::new(alloc);
+            for candidate in candidates_of(tables, state, conflict.token) {
+                if !shifts || candidate.standing.class() != Class::Lose {
+                    rules.push(candidate.rule)?;
+                }
+            }
             if conflict.shift_reduce > 0 {
                 for item in items_of(tables.automaton(), state) {
                     if next_of(grammar, *item) == Some(conflict.token) {

@@ -4,7 +4,6 @@ use crate::conflict::{Conflict, Conflicts};
 use std::alloc::{AllocError, Global};
 use std::mem;
 use yexplain::lines::Spot;
-use yexplain::reads::Made;
 use ysymbols::let_go;
 use ysymbols::names::{SymbolTable, intern, number_in};
 
@@ -98,18 +97,6 @@ impl List {
         let number = number_in(&self.fronts, front);
         self.comments.get(number).map_or(&[][..], Vec::as_slice)
     }
-
-    /// Adds a comment before the conflicts that begin so.
-    fn keep(&mut self, alloc: Global, front: &[u8], comment: &[u8]) -> Made<()> {
-        let number = number_in(&self.fronts, front);
-        if let Some(comments) = self.comments.get_mut(number) {
-            comments.extend_from_slice(comment)?;
-            return Ok(());
-        }
-        intern(alloc, &mut self.fronts, front)?;
-        self.comments.push(Vec::from_slice(alloc, comment)?)?;
-        Ok(())
-    }
 }
 
 /// A list that is being read.
@@ -134,7 +121,14 @@ impl Reader {
         let mut front = Vec::from_slice(self.alloc, &self.token)?;
         front.push(b'\n').map_err(AllocError::from)?;
         front.extend_from_slice(&self.taken)?;
-        self.list.keep(self.alloc, &front, &comment)?;
+        let number = number_in(&self.list.fronts, &front);
+        if let Some(comments) = self.list.comments.get_mut(number) {
+            comments.extend_from_slice(&comment)?;
+            return Ok(());
+        }
+        intern(self.alloc, &mut self.list.fronts, &front)?;
+        let pushed = self.list.comments.push(comment);
+        pushed.map_err(AllocError::from)?;
         Ok(())
     }
 

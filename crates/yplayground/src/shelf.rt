@@ -68,18 +68,6 @@ impl<'s, 'a> Shelf<'s, 'a> {
             None => refused(ErrorKind::NotFound),
         }
     }
-
-    /// Opens a file to be read.
-    fn open(self, path: &str) -> io::Result<Open<'a>> {
-        match self.file(path) {
-            Some(file) => Ok(Open {
-                bytes: file.bytes,
-                cursor: Cursor::new(file.bytes),
-            }),
-            None if self.is_folder(path) => refused(ErrorKind::IsADirectory),
-            None => refused(ErrorKind::NotFound),
-        }
-    }
 }
 
 impl<'a> Read for Open<'a> {
@@ -139,9 +127,15 @@ impl<'s, 'a> Files for Shelf<'s, 'a> {
         how.check()?;
         let is_made = how.asks_create() || how.asks_create_new();
         if is_made || how.asks_write() || how.asks_append() {
-            unwritten()
-        } else {
-            self.open(path)
+            return unwritten();
+        }
+        match self.file(path) {
+            Some(file) => Ok(Open {
+                bytes: file.bytes,
+                cursor: Cursor::new(file.bytes),
+            }),
+            None if self.is_folder(path) => refused(ErrorKind::IsADirectory),
+            None => refused(ErrorKind::NotFound),
         }
     }
 

@@ -106,8 +106,19 @@ impl Chosen {
         }
         let order = self.order(alloc)?;
         for place in order.iter().rev() {
-            if let Some(sentence) = self.sentences.get_mut(*place) {
-                sentence.kept = !is_spared(&mut counts, &sentence.uses);
+            let Some(sentence) = self.sentences.get_mut(*place) else {
+                continue;
+            };
+            let mut is_spared = true;
+            for element in &sentence.uses {
+                is_spared = is_spared && counts.get(*element).copied().unwrap_or(0) > 1;
+            }
+            sentence.kept = !is_spared;
+            if is_spared {
+                for element in &sentence.uses {
+                    let count = counts.get(*element).copied().unwrap_or(0);
+                    set(&mut counts, *element, count.saturating_sub(1));
+                }
             }
         }
         Ok(())
@@ -122,21 +133,6 @@ impl Chosen {
         lengths.sort_by_key(|length| *length)?;
         lengths.iter().map(|(_, place)| *place).collect(alloc)
     }
-}
-
-/// Whether all of some elements are used by more than one sentence; then each counts once less.
-fn is_spared(counts: &mut [usize], elements: &[usize]) -> bool {
-    for element in elements {
-        if counts.get(*element).copied().unwrap_or(0) <= 1 {
-            return false;
-        }
-    }
-    for element in elements {
-        if let Some(count) = counts.get_mut(*element) {
-            *count = count.saturating_sub(1);
-        }
-    }
-    true
 }
 
 impl<'a> Chooser<'a> {
