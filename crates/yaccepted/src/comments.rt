@@ -171,9 +171,4 @@ impl Numbers {
         }
         Ok(numbers)
     }
-
-    /// Whether a number is expected.
-    pub fn any(&self) -> bool {
-        self.shift_reduce.is_some() || self.reduce_reduce.is_some()
-    }
 }

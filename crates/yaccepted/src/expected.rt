@@ -161,7 +161,9 @@ impl Expectation {
         match self {
             Expectation::Open => false,
             Expectation::Given(_) => true,
-            Expectation::Comments(numbers) | Expectation::Directives(numbers, _) => numbers.any(),
+            Expectation::Comments(numbers) | Expectation::Directives(numbers, _) => {
+                numbers.shift_reduce.is_some() || numbers.reduce_reduce.is_some()
+            }
         }
     }
 

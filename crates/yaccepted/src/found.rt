@@ -31,19 +31,6 @@ struct Pairs {
     all: IndexMap<Pair, usize>,
 }
 
-/// The rules of a cell that don't lose to its shift, by their order, and nothing where there is
-/// none of this place.
-fn rules_of(alloc: Global, tables: &Tables, cell: (usize, Sym)) -> Made<Vec<usize>> {
-    let shifts = shift_of(tables, cell.0, cell.1).is_some();
-    let mut rules = Vec::new(alloc);
-    for candidate in candidates_of(tables, cell.0, cell.1) {
-        if !shifts || candidate.standing.class() != Class::Lose {
-            rules.push(candidate.rule)?;
-        }
-    }
-    Ok(rules)
-}
-
 impl Pairs {
     /// Whether there are too many.
     fn is_full(&self) -> bool {
@@ -65,44 +52,32 @@ impl Pairs {
         Ok(())
     }
 
-    /// Adds the rules that each shift of a cell is taken before.
-    fn add_shifts(&mut self, tables: &Tables, cell: (usize, Sym), rules: &[usize]) -> Made<()> {
-        let grammar = grammar_of(tables);
-        for item in items_of(tables.automaton(), cell.0) {
-            if next_of(grammar, *item) == Some(cell.1) {
-                self.add(cell, (item.rule, item.dot), rules)?;
-            }
-        }
-        Ok(())
-    }
-
-    /// Adds the conflicts of a state.
+    /// Adds the conflicts of a state: the rules that each shift of a cell is taken before, or those
+    /// that another rule is.
     fn add_state(&mut self, alloc: Global, tables: &Tables, state: usize) -> Made<()> {
+        let grammar = grammar_of(tables);
         for conflict in conflicts_of(tables, state) {
             let cell = (state, conflict.token);
-            let rules = rules_of(alloc, tables, cell)?;
+            // the rules that don't lose to the shift, where there is one
+            let shifts = shift_of(tables, state, conflict.token).is_some();
+            let mut rules = Vec::new(alloc);
+            for candidate in candidates_of(tables, state, conflict.token) {
+                if !shifts || candidate.standing.class() != Class::Lose {
+                    rules.push(candidate.rule)?;
+                }
+            }
             if conflict.shift_reduce > 0 {
-                self.add_shifts(tables, cell, &rules)?;
+                for item in items_of(tables.automaton(), state) {
+                    if next_of(grammar, *item) == Some(conflict.token) {
+                        self.add(cell, (item.rule, item.dot), &rules)?;
+                    }
+                }
             } else if let Some((first, others)) = rules.split_first() {
-                let dot = body_of(grammar_of(tables), *first).len();
+                let dot = body_of(grammar, *first).len();
                 self.add(cell, (*first, dot), others)?;
             }
         }
         Ok(())
-    }
-
-    /// Those of tables; once there are too many, no more are sought.
-    fn new(alloc: Global, tables: &Tables) -> Made<Pairs> {
-        let mut pairs = Pairs {
-            all: IndexMap::new(alloc),
-        };
-        for state in 0..tables.automaton().states() {
-            if pairs.is_full() {
-                break;
-            }
-            pairs.add_state(alloc, tables, state)?;
-        }
-        Ok(pairs)
     }
 }
 
@@ -136,9 +111,14 @@ fn conflict_of(
 /// The conflicts of tables as texts, in the order of their states; `None` where there are more than
 /// can be told apart.
 pub fn found_in(alloc: Global, tables: &Tables, lines: &Lines) -> io::Result<Option<Conflicts>> {
-    let pairs = Pairs::new(alloc, tables)?;
-    if pairs.is_full() {
-        return Ok(None);
+    let mut pairs = Pairs {
+        all: IndexMap::new(alloc),
+    };
+    for state in 0..tables.automaton().states() {
+        pairs.add_state(alloc, tables, state)?;
+        if pairs.is_full() {
+            return Ok(None);
+        }
     }
     let hosts = Hosts::new(alloc, grammar_of(tables))?;
     let mut found = Conflicts::new(alloc);

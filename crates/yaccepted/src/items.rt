@@ -21,26 +21,22 @@ fn is_action(grammar: &Grammar, symbol: Sym) -> bool {
 }
 
 impl Hosts {
-    /// Notes the inner actions of a rule.
-    fn note(&mut self, grammar: &Grammar, rule: usize) {
-        for (dot, symbol) in body_of(grammar, rule).iter().enumerate() {
-            if is_action(grammar, *symbol) {
-                set(&mut self.0, *symbol, Some((rule, dot)));
-            }
-        }
-    }
-
     /// Those of a grammar.
     pub fn new(alloc: Global, grammar: &Grammar) -> Made<Hosts> {
         let mut hosts = Hosts(vec![in alloc; None; grammar.symbols()]?);
         for rule in 0..grammar.rules() {
-            hosts.note(grammar, rule);
+            for (dot, symbol) in body_of(grammar, rule).iter().enumerate() {
+                if is_action(grammar, *symbol) {
+                    set(&mut hosts.0, *symbol, Some((rule, dot)));
+                }
+            }
         }
         Ok(hosts)
     }
 
-    /// Writes an item: that before the action, for the rule of an inner action.
-    fn put<W: Write>(&self, out: &mut W, grammar: &Grammar, item: Dotted) -> io::Result<()> {
+    /// An item as a text: that before the action, for the rule of an inner action.
+    pub fn text(&self, alloc: Global, grammar: &Grammar, item: Dotted) -> io::Result<Vec<u8>> {
+        let mut out = Vec::new(alloc);
         let left = left_of(grammar, item.0);
         let (rule, dot) = match left.and_then(|left| self.0.get(left).copied().flatten()) {
             Some(host) if is_inner(grammar, item.0) => host,
@@ -60,13 +56,6 @@ impl Hosts {
         if dot >= body.len() {
             write!(out, " .")?;
         }
-        Ok(())
-    }
-
-    /// An item as a text.
-    pub fn text(&self, alloc: Global, grammar: &Grammar, item: Dotted) -> io::Result<Vec<u8>> {
-        let mut text = Vec::new(alloc);
-        self.put(&mut text, grammar, item)?;
-        Ok(text)
+        Ok(out)
     }
 }

@@ -119,40 +119,31 @@ pub struct Telling<'a> {
     pub is_whole: bool,
 }
 
-/// A conflict, after a front.
-fn listed_conflict(
-    alloc: Global,
-    (path, front): (&str, &str),
-    conflict: &Conflict,
-) -> io::Result<Diagnostic> {
-    let mut one = Diagnostic::new(alloc, Some(path), Some(conflict.spot))?;
-    one.category = conflict.category;
-    let token = Bytes(&conflict.token);
-    write!(one.message, "{front}conflict on {token}")?;
-    for item in [&conflict.taken, &conflict.other] {
-        let (mut note, item) = (Vec::new(alloc), Bytes(item));
-        write!(note, "{item}")?;
-        one.help(note)?;
-    }
-    Ok(one)
-}
-
 /// Tells conflicts as a list has them, each after a front.
 fn add_conflicts(
     alloc: Global,
     told: &mut Diagnostics,
-    named: (&str, &str),
+    (path, front): (&str, &str),
     conflicts: &[Conflict],
     is_whole: bool,
 ) -> io::Result<()> {
     let most = if is_whole { usize::MAX } else { MOST_TOLD };
     for conflict in conflicts.iter().take(most) {
-        told.add(listed_conflict(alloc, named, conflict)?)?;
+        let mut one = Diagnostic::new(alloc, Some(path), Some(conflict.spot))?;
+        one.category = conflict.category;
+        let token = Bytes(&conflict.token);
+        write!(one.message, "{front}conflict on {token}")?;
+        for item in [&conflict.taken, &conflict.other] {
+            let (mut note, item) = (Vec::new(alloc), Bytes(item));
+            write!(note, "{item}")?;
+            one.help(note)?;
+        }
+        told.add(one)?;
     }
     let more = conflicts.len().saturating_sub(most);
     if more > 0 {
-        let mut one = Diagnostic::new(alloc, Some(named.0), None)?;
-        write!(one.message, "{}conflicts more: {more}", named.1)?;
+        let mut one = Diagnostic::new(alloc, Some(path), None)?;
+        write!(one.message, "{front}conflicts more: {more}")?;
         told.add(one)?;
     }
     Ok(())

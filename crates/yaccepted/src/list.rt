@@ -4,7 +4,6 @@ use crate::conflict::{Conflict, Conflicts};
 use std::alloc::{AllocError, Global};
 use std::mem;
 use yexplain::lines::Spot;
-use yexplain::reads::Made;
 use ysymbols::let_go;
 use ysymbols::names::{SymbolTable, intern, number_in};
 
@@ -98,18 +97,6 @@ impl List {
         let number = number_in(&self.fronts, front);
         self.comments.get(number).map_or(&[][..], Vec::as_slice)
     }
-
-    /// Adds a comment before the conflicts that begin so.
-    fn keep(&mut self, alloc: Global, front: &[u8], comment: &[u8]) -> Made<()> {
-        let number = number_in(&self.fronts, front);
-        if let Some(comments) = self.comments.get_mut(number) {
-            comments.extend_from_slice(comment)?;
-            return Ok(());
-        }
-        intern(alloc, &mut self.fronts, front)?;
-        self.comments.push(Vec::from_slice(alloc, comment)?)?;
-        Ok(())
-    }
 }
 
 /// A list that is being read.
@@ -124,15 +111,6 @@ struct Reader {
     stage: Stage,
 }
 
-/// Whether a text can be an item: it has a left side with a colon, and a dot.
-fn is_item(text: &[u8]) -> bool {
-    let mut words = text.split(|byte| *byte == b' ');
-    let has_left = words
-        .next()
-        .map_or(false, |word| word.len() > 1 && word.ends_with(b":"));
-    has_left && words.any(|word| word == b".".as_slice())
-}
-
 impl Reader {
     /// Gives the comments to the conflict whose items are read.
     fn keep_comment(&mut self) -> Result<(), Trouble> {
@@ -143,7 +121,14 @@ impl Reader {
         let mut front = Vec::from_slice(self.alloc, &self.token)?;
         front.push(b'\n').map_err(AllocError::from)?;
         front.extend_from_slice(&self.taken)?;
-        self.list.keep(self.alloc, &front, &comment)?;
+        let number = number_in(&self.list.fronts, &front);
+        if let Some(comments) = self.list.comments.get_mut(number) {
+            comments.extend_from_slice(&comment)?;
+            return Ok(());
+        }
+        intern(self.alloc, &mut self.list.fronts, &front)?;
+        let pushed = self.list.comments.push(comment);
+        pushed.map_err(AllocError::from)?;
         Ok(())
     }
 
@@ -184,7 +169,7 @@ impl Reader {
             other: Vec::from_slice(self.alloc, item)?,
             category: None,
         };
-        if let Some(before) = self.line_of(&conflict)? {
+        if let Some(before) = self.list.accepted.line_of(self.alloc, &conflict)? {
             return Err(Trouble::Wrong(number, Why::Twice(before)));
         }
         self.list.accepted.add(self.alloc, conflict)?;
@@ -192,14 +177,14 @@ impl Reader {
         Ok(())
     }
 
-    /// The line of a conflict that was read, where it was.
-    fn line_of(&self, conflict: &Conflict) -> Made<Option<usize>> {
-        self.list.accepted.line_of(self.alloc, conflict)
-    }
-
-    /// Takes an item.
+    /// Takes an item: it has a left side with a colon, and a dot.
     fn take_item(&mut self, number: usize, item: &[u8]) -> Result<(), Trouble> {
-        if !is_item(item) {
+        let mut words = item.split(|byte| *byte == b' ');
+        let has_left = match words.next() {
+            Some(word) => word.len() > 1 && word.ends_with(b":"),
+            None => false,
+        };
+        if !has_left || !words.any(|word| word == b".".as_slice()) {
             return Err(Trouble::Wrong(number, Why::NoItem));
         }
         match self.stage {
@@ -241,20 +226,6 @@ impl Reader {
             self.take_token(number, line)
         }
     }
-
-    /// Takes all lines.
-    fn take_all(&mut self, source: &[u8]) -> Result<(), Trouble> {
-        let mut number: usize = 0;
-        for line in source.split(|byte| *byte == b'\n') {
-            number = number.saturating_add(1);
-            self.take(number, line)?;
-        }
-        self.end_conflict()?;
-        match self.stage {
-            Stage::Front => Err(Trouble::Wrong(number, Why::NoFirst)),
-            _ => Ok(()),
-        }
-    }
 }
 
 /// The list that is a file of these bytes, or the first line that is wrong.
@@ -267,7 +238,15 @@ pub fn list_of(alloc: Global, source: &[u8]) -> Result<List, Trouble> {
         taken: Vec::new(alloc),
         stage: Stage::Front,
     };
-    reader.take_all(source)?;
+    let mut number: usize = 0;
+    for line in source.split(|byte| *byte == b'\n') {
+        number = number.saturating_add(1);
+        reader.take(number, line)?;
+    }
+    reader.end_conflict()?;
+    if reader.stage == Stage::Front {
+        return Err(Trouble::Wrong(number, Why::NoFirst));
+    }
     let Reader { list, comment, .. } = reader;
     let mut list = list;
     list.tail = comment;

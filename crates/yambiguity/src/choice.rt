@@ -17,7 +17,7 @@ pub enum Choice {
 }
 
 /// A cell with a conflict.
-#[derive(Clone, Copy, Drop, PartialEq, Eq)]
+#[derive(Clone, Copy, Drop)]
 pub struct Cell {
     /// The state.
     pub state: usize,

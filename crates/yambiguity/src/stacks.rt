@@ -10,7 +10,7 @@ use ysymbols::Sym;
 pub const BOTTOM: usize = 0;
 
 /// What a parse does.
-#[derive(Clone, Copy, Drop, PartialEq, Eq)]
+#[derive(Clone, Copy, Drop)]
 pub enum Deed {
     /// It shifts a symbol; a nonterminal stands for any sentence of it.
     Shift(Sym),

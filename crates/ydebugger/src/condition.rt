@@ -89,16 +89,18 @@ fn reduced(grammar: &Grammar, name: &str) -> Result<Condition, Refusal> {
     }
 }
 
-/// A condition by its word and what follows, where the file has so many tokens.
-fn condition_for(
-    session: &Session,
-    tokens: usize,
-    word: Condition,
-    name: &str,
-) -> Result<Condition, Refusal> {
-    let tables = session.tables();
-    match word {
-        Condition::Error | Condition::Conflict | Condition::Accept if name.is_empty() => Ok(word),
+/// The condition that a text says, where the file has so many tokens: by its word and what follows.
+pub fn condition_of(session: &Session, tokens: usize, text: &str) -> Result<Condition, Refusal> {
+    let (tables, (word, name)) = (session.tables(), first_word(text));
+    let condition = match find(&WORDS, word) {
+        Found::One(condition) => condition,
+        Found::Many if !word.is_empty() => return Err(Refusal::ManyConditions),
+        _ => return Err(Refusal::NoCondition),
+    };
+    match condition {
+        Condition::Error | Condition::Conflict | Condition::Accept if name.is_empty() => {
+            Ok(condition)
+        }
         Condition::Error | Condition::Conflict | Condition::Accept => Err(Refusal::Alone),
         _ if name.is_empty() => Err(Refusal::Unfinished),
         Condition::Shift(_) => token_named(session, name)
@@ -110,16 +112,6 @@ fn condition_for(
         }
         Condition::Token(_) => number_in(name, "tokens", 1, tokens).map(Condition::Token),
         Condition::Depth(_) => number_in(name, "depths", 0, DEEPEST).map(Condition::Depth),
-    }
-}
-
-/// The condition that a text says, where the file has so many tokens.
-pub fn condition_of(session: &Session, tokens: usize, text: &str) -> Result<Condition, Refusal> {
-    let (word, name) = first_word(text);
-    match find(&WORDS, word) {
-        Found::One(word) => condition_for(session, tokens, word, name),
-        Found::Many if !word.is_empty() => Err(Refusal::ManyConditions),
-        _ => Err(Refusal::NoCondition),
     }
 }
 

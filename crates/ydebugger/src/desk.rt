@@ -11,7 +11,6 @@ use crate::travel::{Move, move_of, name_at_fault};
 use crate::verb::Verb;
 use crate::views::View;
 use crate::words::{Found, first_word};
-use std::alloc::Global;
 use std::io::{self, BufReader, ErrorKind, Read, Write};
 use std::rt::Files;
 use std::str;

@@ -46,10 +46,11 @@ pub fn put_unknown<W: Write>(alloc: Global, page: &mut Page<W>, word: &str) -> M
 
 /// How a command is used and what it does.
 fn put_usage<W: Write>(page: &mut Page<W>, verb: Verb) {
+    let (usage, about) = verb.told();
     page.put("  ");
-    page.painted(Paint::Strong, verb.usage());
+    page.painted(Paint::Strong, usage);
     page.tab(28);
-    page.line(verb.about());
+    page.line(about);
 }
 
 /// Help on all commands, or on one.

@@ -86,20 +86,6 @@ struct Course {
     until: Option<Condition>,
 }
 
-/// The course of a move from a position.
-fn course_of(position: usize, wanted: Move) -> Course {
-    let until = until_of(wanted);
-    let (back, most) = match wanted {
-        Move::Step(count) => (false, count),
-        Move::Back(count) => (true, count),
-        Move::To(to) if position < to => (false, to.saturating_sub(position)),
-        Move::To(to) => (true, position.saturating_sub(to)),
-        Move::Run | Move::RunUntil(_) => (false, FARTHEST),
-        Move::BackUntil(_) => (true, FARTHEST),
-    };
-    Course { back, most, until }
-}
-
 /// Makes the steps of a course, or undoes them, up to a fault of the page.
 fn go<W: Write>(
     parse: &mut Parse,
@@ -183,8 +169,16 @@ pub fn make_move<W: Write>(
         made: 0,
         tail: Vec::with_capacity(alloc, KEPT)?,
     };
-    let course = course_of(parse.session.position(), wanted);
-    let end = go(parse, page, &mut telling, course);
+    let (position, until) = (parse.session.position(), until_of(wanted));
+    let (back, most) = match wanted {
+        Move::Step(count) => (false, count),
+        Move::Back(count) => (true, count),
+        Move::To(to) if position < to => (false, to.saturating_sub(position)),
+        Move::To(to) => (true, position.saturating_sub(to)),
+        Move::Run | Move::RunUntil(_) => (false, FARTHEST),
+        Move::BackUntil(_) => (true, FARTHEST),
+    };
+    let end = go(parse, page, &mut telling, Course { back, most, until });
     telling.finish(page, parse);
     put_end(page, parse, wanted, end, telling.made);
     if !tells_each(wanted) {

@@ -44,25 +44,6 @@ impl From<AllocError> for Refusal {
     }
 }
 
-impl Refusal {
-    /// What it says where it has no name and no number.
-    fn words(self) -> &'static str {
-        match self {
-            Refusal::Usage(_) | Refusal::Range(_, _, _) | Refusal::None(_) => "",
-            Refusal::NoNumber => "That is no number.",
-            Refusal::NoToken => "That is not a terminal of this grammar.",
-            Refusal::NoInput => "That is not a terminal that an input can have.",
-            Refusal::NoNonterminal => "That is not a nonterminal of this grammar.",
-            Refusal::NoSymbol => "That is not a symbol of this grammar.",
-            Refusal::NoCondition => "That is no condition; help run lists them.",
-            Refusal::ManyConditions => "Several conditions begin so; help run lists them.",
-            Refusal::Alone => "That condition is a word alone; help run lists them.",
-            Refusal::Unfinished => "That condition needs a name or a number; help run lists them.",
-            Refusal::Memory => "There is no memory for that; the parse is as it was.",
-        }
-    }
-}
-
 /// A number as it stands in texts: `1,000,000`.
 #[derive(Clone, Copy)]
 struct Grouped(usize);
@@ -80,7 +61,7 @@ impl fmt::Display for Grouped {
 
 /// The arguments of a command are not those that it takes.
 pub fn misused(verb: Verb) -> Refusal {
-    Refusal::Usage(verb.usage())
+    Refusal::Usage(verb.told().0)
 }
 
 /// Writes a refusal.
@@ -93,8 +74,21 @@ pub fn put_refusal<W: Write>(page: &mut Page<W>, refusal: Refusal) {
             write!(page, "That is out of range: {what} are {from} to {to}.")
         }
         Refusal::None(what) => write!(page, "There are no {what}."),
-        _ => write!(page, "{}", refusal.words()),
+        _ => Ok(()),
     };
+    page.put(match refusal {
+        Refusal::Usage(_) | Refusal::Range(_, _, _) | Refusal::None(_) => "",
+        Refusal::NoNumber => "That is no number.",
+        Refusal::NoToken => "That is not a terminal of this grammar.",
+        Refusal::NoInput => "That is not a terminal that an input can have.",
+        Refusal::NoNonterminal => "That is not a nonterminal of this grammar.",
+        Refusal::NoSymbol => "That is not a symbol of this grammar.",
+        Refusal::NoCondition => "That is no condition; help run lists them.",
+        Refusal::ManyConditions => "Several conditions begin so; help run lists them.",
+        Refusal::Alone => "That condition is a word alone; help run lists them.",
+        Refusal::Unfinished => "That condition needs a name or a number; help run lists them.",
+        Refusal::Memory => "There is no memory for that; the parse is as it was.",
+    });
     page.paint(Paint::Plain);
     page.end();
 }

@@ -1,6 +1,6 @@
 //! The commands: their words, how they are used, and what they do.
 
-/// A command; what each does is its `about`.
+/// A command; `told` says what each does.
 #[derive(Clone, Copy, PartialEq, Eq)]
 pub enum Verb {
     Step,
@@ -58,9 +58,9 @@ pub const VERBS: [(&str, Verb); 24] = [
 ];
 
 impl Verb {
-    /// How it is written, and after a colon what it does.
-    fn said(self) -> &'static str {
-        match self {
+    /// How it is written, and what it does, in a line.
+    pub fn told(self) -> (&'static str, &'static str) {
+        let told = match self {
             Verb::Step => "step [N]: one step forward, or N",
             Verb::Back => "back [N] | back until C: one step back, or N, or to where C holds",
             Verb::To => "to K: to position K, forward or back",
@@ -88,17 +88,8 @@ impl Verb {
             Verb::Reload => "reload: reads both files again, and goes to the same position",
             Verb::Help => "help [command]: this list, or more on one command",
             Verb::Quit => "quit: ends the session, as the end of input does",
-        }
-    }
-
-    /// How it is written.
-    pub fn usage(self) -> &'static str {
-        self.said().split_once(": ").map_or("", |(usage, _)| usage)
-    }
-
-    /// What it does, in a line.
-    pub fn about(self) -> &'static str {
-        self.said().split_once(": ").map_or("", |(_, about)| about)
+        };
+        told.split_once(": ").unwrap_or(("", ""))
     }
 
     /// More on it, or nothing.

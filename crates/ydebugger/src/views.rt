@@ -46,18 +46,6 @@ pub struct View<'a, W> {
     pub page: &'a mut Page<W>,
 }
 
-/// Why the cell doesn't say the next step, where it doesn't.
-fn put_mode<W: Write>(page: &mut Page<W>, mode: Mode) {
-    match mode {
-        Mode::Running => {}
-        Mode::Popping => page.line(
-            "  Error recovery: entries are popped until a state can shift error.",
-        ),
-        Mode::Accepted => page.line("  The input is accepted: there is no further step."),
-        Mode::Failed => page.line("  The parse has given up: there is no further step."),
-    }
-}
-
 /// Why a cell says what it says, and where the token of a reduction comes from.
 fn put_why<W: Write>(alloc: Global, page: &mut Page<W>, asked: Question<'_>) -> Made<()> {
     // The page remembers a fault.
@@ -73,20 +61,6 @@ fn put_names<W: Write>(page: &mut Page<W>, grammar: &Grammar, tokens: &[Sym]) {
         page.word(0, name_of(grammar, *token));
     }
     page.end();
-}
-
-/// The tokens that can come, and those that take too many reductions to say.
-fn put_found<W: Write>(page: &mut Page<W>, grammar: &Grammar, found: &Wanted) {
-    if !found.can.is_empty() {
-        put_names(page, grammar, &found.can);
-    }
-    if !found.unknown.is_empty() {
-        page.put("can't tell, since too many reductions come first:");
-        put_names(page, grammar, &found.unknown);
-    }
-    if found.can.is_empty() && found.unknown.is_empty() {
-        page.line("No token can come here.");
-    }
 }
 
 /// How many lines or forms are wanted: so many, all, or as many as usual.
@@ -170,7 +144,21 @@ impl<W: Write> View<'_, W> {
         };
         if name.is_empty() {
             put_why(self.alloc, self.page, asked)?;
-            put_mode(self.page, session.view().mode());
+            // why the cell doesn't say the next step, where it doesn't
+            match session.view().mode() {
+                Mode::Running => {}
+                Mode::Popping => self.page.line(
+                    "  Error recovery: entries are popped until a state can shift error.",
+                ),
+                Mode::Accepted => {
+                    self.page
+                        .line("  The input is accepted: there is no further step.");
+                }
+                Mode::Failed => {
+                    self.page
+                        .line("  The parse has given up: there is no further step.");
+                }
+            }
             return Ok(());
         }
         let Some(token) = token_named(session, name) else {
@@ -179,7 +167,8 @@ impl<W: Write> View<'_, W> {
         put_why(self.alloc, self.page, Question { token, ..asked })
     }
 
-    /// The tokens that can come here; none where the parse isn't running.
+    /// The tokens that can come here, and those that take too many reductions to say; none where the
+    /// parse isn't running.
     pub fn show_expected(&mut self) -> Made<()> {
         let parse = self.parse;
         let (session, tables) = (&parse.session, parse.session.tables());
@@ -187,7 +176,18 @@ impl<W: Write> View<'_, W> {
             Mode::Running => {
                 let states = stack_states(self.alloc, session)?;
                 let found = expected(self.alloc, tables, &states)?;
-                put_found(self.page, grammar_of(tables), &found);
+                let Wanted { can, unknown } = &found;
+                if !can.is_empty() {
+                    put_names(self.page, grammar_of(tables), can);
+                }
+                if !unknown.is_empty() {
+                    self.page
+                        .put("can't tell, since too many reductions come first:");
+                    put_names(self.page, grammar_of(tables), unknown);
+                }
+                if can.is_empty() && unknown.is_empty() {
+                    self.page.line("No token can come here.");
+                }
                 return Ok(());
             }
             Mode::Popping => " while symbols are popped; go back and ask again.",

@@ -20,7 +20,7 @@ pub fn number_of(word: &str) -> Option<usize> {
 }
 
 /// What a word means in a table.
-#[derive(Clone, Copy, PartialEq, Eq)]
+#[derive(Clone, Copy)]
 pub enum Found<T> {
     /// This entry alone.
     One(T),

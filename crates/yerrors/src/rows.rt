@@ -41,7 +41,7 @@ pub struct Key {
 }
 
 /// A part of what is taken before.
-#[derive(Clone, Copy, Drop, PartialEq, Eq)]
+#[derive(Clone, Copy, Drop)]
 pub enum Part {
     /// Nothing.
     Nothing,
@@ -101,11 +101,12 @@ pub struct Rows {
     alloc: Global,
     /// All sets.
     pub sets: Sets,
-    spots: IndexSet<Spot>,
+    /// The spots that have rows.
+    pub spots: IndexSet<Spot>,
     /// The rows of each spot.
     of_spots: Vec<Vec<usize>>,
     /// What each row is of.
-    keys: IndexSet<Key>,
+    pub keys: IndexSet<Key>,
     rows: Vec<Row>,
     /// The rows in which something waits or has waited, and what.
     waiting: Vec<(usize, Level)>,
@@ -175,11 +176,6 @@ impl Rows {
         self.sets.make()
     }
 
-    /// The number of a spot that has rows.
-    pub fn spot(&self, spot: Spot) -> Option<usize> {
-        self.spots.get_index_of(&spot)
-    }
-
     /// How many rows the spot of a number has.
     pub fn count(&self, spot: usize) -> usize {
         self.of_spots.get(spot).map_or(0, |rows| rows.len())
@@ -189,11 +185,6 @@ impl Rows {
     pub fn row_at(&self, spot: usize, index: usize) -> Option<(usize, Sym)> {
         let row = self.of_spots.get(spot)?.get(index).copied()?;
         Some((row, self.key(row)?.first?))
-    }
-
-    /// The row of a key, where there is one.
-    pub fn find(&self, key: Key) -> Option<usize> {
-        self.keys.get_index_of(&key)
     }
 
     /// What a row is of.
@@ -232,7 +223,7 @@ impl Rows {
 
     /// The row of a key, which is made where there is none.
     fn number(&mut self, key: Key) -> Made<usize> {
-        if let Some(row) = self.find(key) {
+        if let Some(row) = self.keys.get_index_of(&key) {
             return Ok(row);
         }
         let (place, is_new) = self.spots.insert_full(key.spot)?;

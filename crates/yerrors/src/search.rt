@@ -82,7 +82,7 @@ impl<'a> Search<'a> {
 
     /// The row of a state, where a parse comes to that before any error.
     pub fn row(&self, state: usize) -> Option<usize> {
-        let row = self.rows.find(state_key(state))?;
+        let row = self.rows.keys.get_index_of(&state_key(state))?;
         if self.rows.levels(row).is_empty() {
             None
         } else {
@@ -108,7 +108,8 @@ impl<'a> Search<'a> {
     /// Puts what an item of a state says, where it is complete: an empty rule leaves the token
     /// ahead.
     fn put_item(&mut self, state: usize, item: Item) -> Made<()> {
-        let grammar = grammar_of(self.ways.tables);
+        let tables = self.ways.tables;
+        let grammar = grammar_of(tables);
         if !is_complete(grammar, item) {
             return Ok(());
         }
@@ -134,8 +135,8 @@ impl<'a> Search<'a> {
 
     /// Makes the sets of the tokens of an input, and puts what is known from the start.
     pub fn begin(&mut self) -> Made<()> {
-        let inputs = self.inputs;
-        for token in 0..token_count(grammar_of(self.ways.tables)) {
+        let (inputs, tables) = (self.inputs, self.ways.tables);
+        for token in 0..token_count(grammar_of(tables)) {
             let alone = self.rows.make_set()?;
             self.alone.push(alone)?;
             if can_stand(self.absent, token) {
@@ -143,7 +144,7 @@ impl<'a> Search<'a> {
                 self.rows.sets.add(inputs, token);
             }
         }
-        let automaton = self.ways.tables.automaton();
+        let automaton = tables.automaton();
         for state in 0..automaton.states() {
             if self.rows.has_steps() {
                 for item in items_of(automaton, state) {

@@ -57,8 +57,8 @@ impl Search<'_> {
             rule: item.rule,
             dot: item.dot.saturating_sub(1),
         };
-        for place in 0..self.ways.moves.before(state).len() {
-            let Some(before) = self.ways.moves.before(state).get(place).copied() else {
+        for place in 0..self.ways.moves.before.of(state).len() {
+            let Some(before) = self.ways.moves.before.of(state).get(place).copied() else {
                 break;
             };
             if is_token && self.ways.action(before, symbol) == Action::Shift(state) {
@@ -90,7 +90,7 @@ impl Search<'_> {
         let Some(number) = self.ways.gotos.number(before, symbol) else {
             return Ok(());
         };
-        let Some(spot) = self.rows.spot(Spot::Goto(number)) else {
+        let Some(spot) = self.rows.spots.get_index_of(&Spot::Goto(number)) else {
             return Ok(());
         };
         for index in 0..self.rows.count(spot) {
@@ -132,7 +132,7 @@ impl Search<'_> {
                 self.leave_goto_in((row, level), key, (to, item))?;
             }
         }
-        let Some(way) = self.rows.find(state_key(state)) else {
+        let Some(way) = self.rows.keys.get_index_of(&state_key(state)) else {
             return Ok(());
         };
         match self.joined((way, first), (row, level)) {
@@ -173,7 +173,7 @@ impl Search<'_> {
     /// Joins a level and each row of a spot, where the level has the token that is ahead before
     /// that.
     fn join_all(&mut self, key: Option<Key>, (row, level): (usize, Level), spot: Spot) -> Made<()> {
-        let Some(spot) = self.rows.spot(spot) else {
+        let Some(spot) = self.rows.spots.get_index_of(&spot) else {
             return Ok(());
         };
         for index in 0..self.rows.count(spot) {
@@ -201,17 +201,14 @@ impl Search<'_> {
     /// Goes on from a state: over the tokens ahead, where they aren't errors, which are noted, and
     /// over its nonterminals.
     fn leave_state(&mut self, (row, level): (usize, Level), state: usize) -> Made<()> {
-        let (tokens, inputs, cost) = (
-            token_count(grammar_of(self.ways.tables)),
-            self.inputs,
-            level.cost,
-        );
+        let (tables, inputs, cost) = (self.ways.tables, self.inputs, level.cost);
+        let tokens = token_count(grammar_of(tables));
         self.rows.spend(tokens);
         for token in 0..tokens {
             if !self.rows.sets.has(level.at, token) {
                 continue;
             }
-            match action_of(self.ways.tables, state, token) {
+            match action_of(tables, state, token) {
                 Action::Shift(to) => {
                     let taken = Taken {
                         first: Part::Row(row, token),

@@ -8,7 +8,7 @@ use yexplain::lines::Lines;
 use yfaults::opening::Opened;
 use ylists::list_text::{ListText, put_unfound};
 use yparse::Session;
-use ysearch::finding::{Finding, List, Seeker};
+use ysearch::finding::{Finding, Seeker};
 use ysearch::groups::{Conflicts, Group, Kind};
 use ysearch::trial::empty_session;
 use ysymbols::{Sym, let_go};
@@ -71,24 +71,20 @@ fn written(alloc: Global, page: Page<Vec<u8>>) -> io::Result<String> {
 }
 
 impl Maker<'_> {
-    /// What is said of a list.
-    fn way(self, list: &List, lists: usize) -> io::Result<String> {
+    /// What is said of each list.
+    fn ways(self, finding: &Finding) -> io::Result<Vec<String>> {
+        let mut ways = Vec::new(self.alloc);
         let text = ListText {
             tables: self.tables,
             lines: self.lines,
             kind: self.kind,
             group: self.group,
-            lists,
+            lists: finding.lists.len(),
         };
-        let mut page = Page::new(Vec::new(self.alloc), false);
-        text.put_list(&mut page, list);
-        written(self.alloc, page)
-    }
-
-    fn ways(self, finding: &Finding) -> io::Result<Vec<String>> {
-        let mut ways = Vec::new(self.alloc);
         for list in &finding.lists {
-            let way = self.way(list, finding.lists.len())?;
+            let mut page = Page::new(Vec::new(self.alloc), false);
+            text.put_list(&mut page, list);
+            let way = written(self.alloc, page)?;
             ways.push(way).map_err(AllocError::from)?;
         }
         Ok(ways)

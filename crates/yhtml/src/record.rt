@@ -45,21 +45,6 @@ impl Drop for Record {
     }
 }
 
-/// The letter of a kind. A page has no edits.
-fn letter_of(kind: StepKind) -> char {
-    match kind {
-        StepKind::Shift(_) => 's',
-        StepKind::Reduce(_) => 'r',
-        StepKind::Accept => 'a',
-        StepKind::Detect => 'e',
-        StepKind::Pop(_) => 'p',
-        StepKind::ShiftError => 'x',
-        StepKind::Discard(_) => 'd',
-        StepKind::Fail => 'f',
-        StepKind::Insert(_) | StepKind::Drop(_) => 'i',
-    }
-}
-
 impl Start {
     /// Where a session stands.
     pub fn of(alloc: Global, session: &Session) -> Made<Start> {
@@ -81,20 +66,20 @@ impl Start {
 }
 
 impl Record {
-    /// No step from there yet.
-    pub fn new(alloc: Global, start: Start) -> Record {
-        Record {
-            start,
-            kinds: String::new(alloc),
-            rules: Vec::new(alloc),
-            states: Vec::new(alloc),
-            cells: Vec::new(alloc),
-        }
-    }
-
-    /// Notes a step, and the state after it.
+    /// Notes a step, and the state after it. A page has no edits.
     pub fn note(&mut self, kind: StepKind, state: usize) -> Made<()> {
-        self.kinds.push(letter_of(kind))?;
+        let letter = match kind {
+            StepKind::Shift(_) => 's',
+            StepKind::Reduce(_) => 'r',
+            StepKind::Accept => 'a',
+            StepKind::Detect => 'e',
+            StepKind::Pop(_) => 'p',
+            StepKind::ShiftError => 'x',
+            StepKind::Discard(_) => 'd',
+            StepKind::Fail => 'f',
+            StepKind::Insert(_) | StepKind::Drop(_) => 'i',
+        };
+        self.kinds.push(letter)?;
         if let StepKind::Reduce(rule) = kind {
             self.rules.push(rule)?;
         }

@@ -91,9 +91,15 @@ impl Walk<'_> {
 
 /// Makes the steps that are wanted from where a parse stands.
 fn walk_on(alloc: Global, parse: &mut Parse, most: usize) -> io::Result<Walked> {
-    let start = Start::of(alloc, &parse.session)?;
+    let record = Record {
+        start: Start::of(alloc, &parse.session)?,
+        kinds: String::new(alloc),
+        rules: Vec::new(alloc),
+        states: Vec::new(alloc),
+        cells: Vec::new(alloc),
+    };
     let mut trail = Trail {
-        record: Record::new(alloc, start),
+        record,
         cells: IndexSet::new(alloc),
     };
     let mut walk = Walk {

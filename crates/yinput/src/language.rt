@@ -46,23 +46,6 @@ pub struct Input {
     pub text: Option<Text>,
 }
 
-/// The tokens of a text of these bytes, or why it has none.
-fn cut(
-    alloc: Global,
-    opened: &Opened,
-    lexer: &Lexer,
-    file: Limited<'_>,
-    bytes: Vec<u8>,
-) -> io::Result<Result<Input, Fault>> {
-    let what = match lexer.lex(alloc, grammar_of(&opened.tables), &bytes) {
-        Ok(lexed) => return with_text(alloc, lexed, file.path, bytes).map(Ok),
-        Err(TextFault::Unmatched(at)) => What::Unmatched(at),
-        Err(TextFault::TooMany(at)) => What::TooMany(at),
-        Err(TextFault::Memory) => return Err(io::Error::from(ErrorKind::OutOfMemory)),
-    };
-    Ok(Err(Fault::new(alloc, file, bytes, what)?))
-}
-
 /// An input with its text.
 fn with_text(alloc: Global, lexed: Lexed, path: &str, bytes: Vec<u8>) -> io::Result<Input> {
     let Lexed {
@@ -81,22 +64,6 @@ fn with_text(alloc: Global, lexed: Lexed, path: &str, bytes: Vec<u8>) -> io::Res
         tokens,
         text: Some(text),
     })
-}
-
-/// The tokens of a tokens file of these bytes, or why it has none.
-fn read(
-    alloc: Global,
-    opened: &Opened,
-    file: Limited<'_>,
-    bytes: Vec<u8>,
-) -> io::Result<Result<Input, Fault>> {
-    let fault = match read_tokens(alloc, &opened.tables, &bytes) {
-        Ok(tokens) => return Ok(Ok(Input { tokens, text: None })),
-        Err(TokenFault::Memory) => return Err(io::Error::from(ErrorKind::OutOfMemory)),
-        Err(fault) => fault,
-    };
-    let what = What::Tokens(fault);
-    Ok(Err(Fault::new(alloc, file, bytes, what)?))
 }
 
 impl Language {
@@ -174,13 +141,25 @@ impl Language {
         file: Limited<'_>,
         bytes: io::Result<Option<Vec<u8>>>,
     ) -> io::Result<Result<Input, Fault>> {
-        match Fault::of_reading(alloc, file, What::Long, bytes)? {
-            Ok(bytes) => match &self.lexer {
-                Some(lexer) => cut(alloc, &self.opened, lexer, file, bytes),
-                None => read(alloc, &self.opened, file, bytes),
+        let bytes = match Fault::of_reading(alloc, file, What::Long, bytes)? {
+            Ok(bytes) => bytes,
+            Err(fault) => return Ok(Err(fault)),
+        };
+        let tables = &self.opened.tables;
+        let what = match &self.lexer {
+            Some(lexer) => match lexer.lex(alloc, grammar_of(tables), &bytes) {
+                Ok(lexed) => return with_text(alloc, lexed, file.path, bytes).map(Ok),
+                Err(TextFault::Unmatched(at)) => What::Unmatched(at),
+                Err(TextFault::TooMany(at)) => What::TooMany(at),
+                Err(TextFault::Memory) => return Err(io::Error::from(ErrorKind::OutOfMemory)),
             },
-            Err(fault) => Ok(Err(fault)),
-        }
+            None => match read_tokens(alloc, tables, &bytes) {
+                Ok(tokens) => return Ok(Ok(Input { tokens, text: None })),
+                Err(TokenFault::Memory) => return Err(io::Error::from(ErrorKind::OutOfMemory)),
+                Err(fault) => What::Tokens(fault),
+            },
+        };
+        Ok(Err(Fault::new(alloc, file, bytes, what)?))
     }
 
     /// The tokens of an input, or why it has none.

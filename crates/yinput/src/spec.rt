@@ -17,7 +17,7 @@ use ytables::Tables;
 fn ungiven(alloc: Global, grammar: &Grammar, lexer: &Lexer) -> Made<Option<Sym>> {
     let used = used_in(alloc, grammar)?;
     for (token, is_used) in used.iter().enumerate() {
-        if *is_used && !lexer.names(token) && needs_line(grammar, token) {
+        if *is_used && lexer.named.get(token) != Some(&true) && needs_line(grammar, token) {
             return Ok(Some(token));
         }
     }

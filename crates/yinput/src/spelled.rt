@@ -13,19 +13,6 @@ pub struct Spelled {
     pub texts: Vec<Option<Vec<u8>>>,
 }
 
-/// A text as a string of C has it.
-fn quoted(alloc: Global, text: &[u8]) -> Made<Vec<u8>> {
-    let mut quoted = Vec::from_slice(alloc, b"\"")?;
-    for byte in text {
-        if *byte == b'"' || *byte == b'\\' {
-            quoted.push(b'\\')?;
-        }
-        quoted.push(*byte)?;
-    }
-    quoted.push(b'"')?;
-    Ok(quoted)
-}
-
 impl Spelled {
     /// What a symbol is called, unless that is its name.
     pub fn of(&self, symbol: Sym) -> Option<&[u8]> {
@@ -33,13 +20,23 @@ impl Spelled {
         text.as_ref().map(Vec::as_slice)
     }
 
-    /// The same, with the texts of tokens that are called by their names so far.
+    /// The same, with the texts of tokens that are called by their names so far, as strings of C.
     pub fn with_texts(&self, alloc: Global, texts: &[Option<Vec<u8>>]) -> Made<Spelled> {
         let mut all = Vec::new(alloc);
         for (symbol, text) in texts.iter().enumerate() {
             all.push(match (self.of(symbol), text) {
                 (Some(called), _) => Some(Vec::from_slice(alloc, called)?),
-                (None, Some(text)) => Some(quoted(alloc, text)?),
+                (None, Some(text)) => {
+                    let mut quoted = Vec::from_slice(alloc, b"\"")?;
+                    for byte in text {
+                        if *byte == b'"' || *byte == b'\\' {
+                            quoted.push(b'\\')?;
+                        }
+                        quoted.push(*byte)?;
+                    }
+                    quoted.push(b'"')?;
+                    Some(quoted)
+                }
                 (None, None) => None,
             })?;
         }

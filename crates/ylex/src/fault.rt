@@ -3,7 +3,7 @@
 use std::alloc::AllocError;
 
 /// What is wrong with a SPEC: what each says is its `text`.
-#[derive(Clone, Copy, Drop, PartialEq, Eq)]
+#[derive(Clone, Copy, Drop)]
 pub enum Wrong {
     NoText,
     Directive,
@@ -15,7 +15,7 @@ pub enum Wrong {
 }
 
 /// Why a SPEC isn't used: what is wrong at a place of it, or that there is no memory.
-#[derive(Clone, Copy, Drop, PartialEq, Eq)]
+#[derive(Clone, Copy, Drop)]
 pub enum SpecFault {
     /// How many bytes stand before the place, and what is wrong there.
     At(usize, Wrong),
@@ -30,7 +30,7 @@ impl From<AllocError> for SpecFault {
 }
 
 /// Why a text isn't cut into tokens.
-#[derive(Clone, Copy, Drop, PartialEq, Eq)]
+#[derive(Clone, Copy, Drop)]
 pub enum TextFault {
     /// Nothing matches after so many bytes.
     Unmatched(usize),

@@ -57,7 +57,8 @@ pub struct Lexer {
     pub(crate) tokens: Vec<Option<Sym>>,
     /// The expressions.
     pub(crate) regexes: Vec<Regex>,
-    named: Vec<bool>,
+    /// Which symbols the SPEC names.
+    pub named: Vec<bool>,
     /// The texts of tokens, none of them tried.
     plain: Texts,
 }
@@ -143,11 +144,6 @@ impl Lexer {
             named,
             plain,
         })
-    }
-
-    /// Whether the SPEC names a symbol.
-    pub fn names(&self, symbol: Sym) -> bool {
-        self.named.get(symbol) == Some(&true)
     }
 
     /// Whether a text can have a token: a line gives it, or it stands for itself.

@@ -93,27 +93,24 @@ fn put_kind<W: Write>(out: &mut W, grammar: &Grammar, used: &[bool], kind: Kind)
     Ok(())
 }
 
-/// Writes the literals, which stand for themselves.
-fn put_literals<W: Write>(out: &mut W, grammar: &Grammar) -> io::Result<()> {
-    let mut some = false;
-    for value in 0..=255u8 {
-        if let Some(token) = grammar.find_literal(value) {
-            let name = Name(grammar, token);
-            if !some {
-                write!(out, "# These stand for themselves:")?;
-            }
-            write!(out, " {name}")?;
-            some = true;
-        }
-    }
-    if some { writeln!(out) } else { Ok(()) }
-}
-
 /// Writes a SPEC for a grammar: its literals, keywords guessed from names in capitals, lines for
 /// names that say how their token looks, and a place to fill in for each other token. `used` says
 /// which symbols stand in a rule.
 pub fn put_sketch<W: Write>(out: &mut W, grammar: &Grammar, used: &[bool]) -> io::Result<()> {
-    put_literals(out, grammar)?;
+    let mut is_first = true;
+    for value in 0..=255u8 {
+        if let Some(token) = grammar.find_literal(value) {
+            let name = Name(grammar, token);
+            if is_first {
+                write!(out, "# These stand for themselves:")?;
+            }
+            write!(out, " {name}")?;
+            is_first = false;
+        }
+    }
+    if !is_first {
+        writeln!(out)?;
+    }
     let blanks = match grammar.find_literal(b'\n') {
         Some(_) => "[ \\t\\r]+",
         None => "[ \\t\\r\\n]+",

@@ -6,7 +6,7 @@ use regex_syntax::{Config, ErrorKind, Parsed, parse};
 use std::alloc::{AllocError, Global};
 use std::str;
 use yexplain::reads::{Made, set};
-use ysymbols::{Grammar, Sym};
+use ysymbols::Grammar;
 
 /// The text of each symbol, by its number, where it has one.
 pub type Texts = Vec<Option<Vec<u8>>>;

@@ -11,7 +11,7 @@
 mod laid;
 mod shelf;
 
-use crate::laid::{Laid, laid_out};
+use crate::laid::laid_out;
 use crate::shelf::Shelf;
 use std::alloc::Global;
 use std::io::Read;
@@ -60,12 +60,6 @@ fn run_over<F: Files + AllocGlobal + Clone + Drop, R: Read + Drop>(
     }
 }
 
-/// A run of `ydebug` by words, over files and an input that are laid out.
-fn run_of(alloc: Global, laid: &Laid<'_, '_>, input: &[u8]) -> Run {
-    let files = &laid.files;
-    run_over(&Shelf { alloc, files }, &laid.words, input)
-}
-
 /// A run that came to nothing.
 fn ended_by(alloc: Global, refused: Refused) -> Run {
     let mut errors = Vec::new(alloc);
@@ -105,7 +99,10 @@ pub extern "C" fn sulderko_ydebug(
 ) -> u32 {
     let laid = laid_out(alloc, words, files);
     let run = match laid {
-        Ok(Some(laid)) => run_of(alloc, &laid, input),
+        Ok(Some(laid)) => {
+            let files = &laid.files;
+            run_over(&Shelf { alloc, files }, &laid.words, input)
+        }
         Ok(None) => {
             *length = 0;
             *errors_length = 0;

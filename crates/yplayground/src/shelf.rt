@@ -40,11 +40,6 @@ fn unwritten<T>() -> io::Result<T> {
     refused(ErrorKind::ReadOnlyFilesystem)
 }
 
-/// Whether a file is to be written.
-fn is_writing(how: &OpenOptions) -> bool {
-    how.asks_write() || how.asks_append() || how.asks_create() || how.asks_create_new()
-}
-
 impl<'s, 'a> Shelf<'s, 'a> {
     /// The file of a name.
     fn file(self, path: &str) -> Option<File<'a>> {
@@ -70,18 +65,6 @@ impl<'s, 'a> Shelf<'s, 'a> {
         match self.file(path) {
             Some(file) => Ok(Metadata::of_file(file.bytes.len() as u64)),
             None if self.is_folder(path) => Ok(Metadata::of_dir()),
-            None => refused(ErrorKind::NotFound),
-        }
-    }
-
-    /// Opens a file to be read.
-    fn open(self, path: &str) -> io::Result<Open<'a>> {
-        match self.file(path) {
-            Some(file) => Ok(Open {
-                bytes: file.bytes,
-                cursor: Cursor::new(file.bytes),
-            }),
-            None if self.is_folder(path) => refused(ErrorKind::IsADirectory),
             None => refused(ErrorKind::NotFound),
         }
     }
@@ -142,10 +125,17 @@ impl<'s, 'a> Files for Shelf<'s, 'a> {
 
     fn open_file(&self, how: &OpenOptions, path: &str) -> io::Result<Open<'a>> {
         how.check()?;
-        if is_writing(how) {
-            unwritten()
-        } else {
-            self.open(path)
+        let is_made = how.asks_create() || how.asks_create_new();
+        if is_made || how.asks_write() || how.asks_append() {
+            return unwritten();
+        }
+        match self.file(path) {
+            Some(file) => Ok(Open {
+                bytes: file.bytes,
+                cursor: Cursor::new(file.bytes),
+            }),
+            None if self.is_folder(path) => refused(ErrorKind::IsADirectory),
+            None => refused(ErrorKind::NotFound),
         }
     }
 

@@ -13,7 +13,7 @@ use ysymbols::{Grammar, Sym};
 const MOST_TAKEN: usize = 100_000;
 
 /// Which way is gone on of those that are equally short.
-#[derive(Clone, Copy, Drop, PartialEq, Eq)]
+#[derive(Clone, Copy, Drop)]
 pub enum Ties {
     /// The first one that leads to a spot.
     First,

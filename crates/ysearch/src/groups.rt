@@ -61,12 +61,22 @@ pub struct Conflicts {
 impl Kind {
     /// That of a conflict of a state.
     fn of(tables: &Tables, state: usize, conflict: Conflict) -> Kind {
+        let token = conflict.token;
+        let shifts = shift_of(tables, state, token).is_some();
+        // the first of the rules that don't lose to the shift, where there is one
+        let (mut rules, mut place) = ([0usize; 10], 0);
+        for candidate in candidates_of(tables, state, token) {
+            if !shifts || candidate.standing.class() != Class::Lose {
+                set(&mut rules, place, candidate.rule);
+                place = place.saturating_add(1);
+            }
+        }
         Kind {
-            token: conflict.token,
-            shifted: shifted(tables.automaton(), state, conflict.token),
+            token,
+            shifted: shifted(tables.automaton(), state, token),
             shift: conflict.shift_reduce > 0,
             rivals: rivals_in(conflict),
-            rules: first_rules(tables, state, conflict.token),
+            rules,
         }
     }
 
@@ -115,20 +125,6 @@ impl Kind {
         let taken = usize::from(!self.shift);
         self.rules().get(taken..).unwrap_or(&[])
     }
-}
-
-/// The first of the rules that don't lose to the shift, where there is one, in the order of the
-/// file.
-fn first_rules(tables: &Tables, state: usize, token: Sym) -> [usize; 10] {
-    let shifts = shift_of(tables, state, token).is_some();
-    let (mut rules, mut place) = ([0usize; 10], 0);
-    for candidate in candidates_of(tables, state, token) {
-        if !shifts || candidate.standing.class() != Class::Lose {
-            set(&mut rules, place, candidate.rule);
-            place = place.saturating_add(1);
-        }
-    }
-    rules
 }
 
 /// A number made of the items that could shift a token; 0 without such items.

@@ -14,10 +14,10 @@ pub struct Moves {
     /// The symbol that leads to a state: each way to it is over this one.
     symbols: Vec<Sym>,
     /// The states from which a way leads to a state, and those to which one leads from it.
-    before: Lists<usize>,
+    pub before: Lists<usize>,
     after: Lists<usize>,
     /// The length of the shortest way to a state, and the state before it on that way.
-    lengths: Nearest,
+    pub lengths: Nearest,
     from: Vec<usize>,
 }
 
@@ -83,16 +83,6 @@ impl Moves {
     /// The symbol that leads to a state.
     pub fn symbol(&self, state: usize) -> Sym {
         self.symbols.get(state).copied().unwrap_or(0)
-    }
-
-    /// The states from which a way leads to a state.
-    pub fn before(&self, state: usize) -> &[usize] {
-        self.before.of(state)
-    }
-
-    /// The length of the shortest way to a state.
-    pub fn length(&self, state: usize) -> u64 {
-        self.lengths.length(state)
     }
 
     /// The symbols of the shortest way to a state.

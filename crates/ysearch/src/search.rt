@@ -234,7 +234,7 @@ impl Finder {
 
     /// A spot waits with the length of the shortest way that goes over it.
     fn put(&mut self, search: &mut Search, node: Node) -> Made<()> {
-        let rest = self.moves.length(node.spot.state);
+        let rest = self.moves.lengths.length(node.spot.state);
         self.steps.spend(1);
         if search.tries == 1 {
             self.one.spend(1);
@@ -309,10 +309,10 @@ impl Finder {
         let symbol = self.moves.symbol(spot.state);
         let length = node.length.saturating_add(self.shortest.length(symbol));
         let digest = self.shortest.digest(symbol).before(node.digest);
-        let count = self.moves.before(spot.state).len();
+        let count = self.moves.before.of(spot.state).len();
         self.steps.spend(count);
         for place in 0..count {
-            let Some(state) = self.moves.before(spot.state).get(place).copied() else {
+            let Some(state) = self.moves.before.of(spot.state).get(place).copied() else {
                 break;
             };
             let firsts = spot.first.before(automaton, state, token);

@@ -103,7 +103,7 @@ pub fn go_back(session: &mut Session) {
 }
 
 /// What a parse over a list of tokens comes to.
-#[derive(Clone, Copy, Drop, PartialEq, Eq)]
+#[derive(Clone, Copy, Drop)]
 pub enum Trial {
     /// After so many steps the state is reached with the token ahead.
     Reached(usize),

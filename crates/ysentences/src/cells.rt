@@ -8,7 +8,7 @@ use ytables::{Action, Tables};
 
 /// A filled cell, which is a line `a` or `d` of a table, unless it reduces at `error`: a state and
 /// a token.
-#[derive(Clone, Copy, Drop, PartialEq, Eq)]
+#[derive(Clone, Copy, Drop)]
 pub struct Cell {
     /// The state.
     pub state: usize,
@@ -26,7 +26,8 @@ pub struct Cells {
 }
 
 impl Cells {
-    /// The filled cells of tables.
+    /// The filled cells of tables, in which something is done. No parse has `error` ahead, which is
+    /// only shifted.
     pub fn new(alloc: Global, tables: &Tables) -> Made<Cells> {
         let mut found = Cells {
             cells: Vec::new(alloc),
@@ -34,32 +35,25 @@ impl Cells {
         };
         for state in 0..tables.automaton().states() {
             found.starts.push(found.cells.len())?;
-            found.add_row(tables, state)?;
+            if default_of(tables, state).is_some() {
+                let token = None;
+                found.cells.push(Cell { state, token })?;
+                continue;
+            }
+            for token in 0..token_count(grammar_of(tables)) {
+                let is_filled = match action_of(tables, state, token) {
+                    Action::Shift(_) => true,
+                    Action::Reduce(_) | Action::Accept => token != ERROR,
+                    Action::Error => false,
+                };
+                if is_filled {
+                    let token = Some(token);
+                    found.cells.push(Cell { state, token })?;
+                }
+            }
         }
         found.starts.push(found.cells.len())?;
         Ok(found)
-    }
-
-    /// Adds the cells of a state in which something is done. No parse has `error` ahead, which is
-    /// only shifted.
-    fn add_row(&mut self, tables: &Tables, state: usize) -> Made<()> {
-        if default_of(tables, state).is_some() {
-            let token = None;
-            self.cells.push(Cell { state, token })?;
-            return Ok(());
-        }
-        for token in 0..token_count(grammar_of(tables)) {
-            let is_filled = match action_of(tables, state, token) {
-                Action::Shift(_) => true,
-                Action::Reduce(_) | Action::Accept => token != ERROR,
-                Action::Error => false,
-            };
-            if is_filled {
-                let token = Some(token);
-                self.cells.push(Cell { state, token })?;
-            }
-        }
-        Ok(())
     }
 
     /// How many there are.

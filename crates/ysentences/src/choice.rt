@@ -1,6 +1,6 @@
 //! The sentences that are kept: each uses something that no other one does.
 
-use crate::contexts::{Contexts, Place};
+use crate::contexts::Contexts;
 use crate::elements::Kind;
 use crate::seek::{Goal, MOST_TOKENS, Seeker, Sought};
 use crate::trial::Trier;
@@ -10,8 +10,9 @@ use yexplain::reads::{Made, action_of, default_of, grammar_of, is_reachable, lef
 use ylalr::ERROR;
 use yparse::Session;
 use ysearch::lists::Lists;
+use ysearch::search::Finder;
 use ysymbols::Sym;
-use ytables::{Action, Tables};
+use ytables::Action;
 
 /// How many further lists are tried for an element that the first one misses.
 const MOST_OTHERS: usize = 20;
@@ -31,7 +32,7 @@ pub struct Sentence {
 }
 
 /// Why an element isn't used by a sentence.
-#[derive(Clone, Copy, Drop, PartialEq, Eq)]
+#[derive(Clone, Copy, Drop)]
 pub enum Missing {
     /// Nothing was found in as many steps as are made.
     Late,
@@ -105,8 +106,19 @@ impl Chosen {
         }
         let order = self.order(alloc)?;
         for place in order.iter().rev() {
-            if let Some(sentence) = self.sentences.get_mut(*place) {
-                sentence.kept = !is_spared(&mut counts, &sentence.uses);
+            let Some(sentence) = self.sentences.get_mut(*place) else {
+                continue;
+            };
+            let mut is_spared = true;
+            for element in &sentence.uses {
+                is_spared = is_spared && counts.get(*element).copied().unwrap_or(0) > 1;
+            }
+            sentence.kept = !is_spared;
+            if is_spared {
+                for element in &sentence.uses {
+                    let count = counts.get(*element).copied().unwrap_or(0);
+                    set(&mut counts, *element, count.saturating_sub(1));
+                }
             }
         }
         Ok(())
@@ -123,36 +135,11 @@ impl Chosen {
     }
 }
 
-/// Whether all of some elements are used by more than one sentence; then each counts once less.
-fn is_spared(counts: &mut [usize], elements: &[usize]) -> bool {
-    for element in elements {
-        if counts.get(*element).copied().unwrap_or(0) <= 1 {
-            return false;
-        }
-    }
-    for element in elements {
-        if let Some(count) = counts.get_mut(*element) {
-            *count = count.saturating_sub(1);
-        }
-    }
-    true
-}
-
-/// The rule that a filled cell reduces by, where it does.
-fn rule_in(tables: &Tables, goal: Goal) -> Option<usize> {
-    match goal.token {
-        None => default_of(tables, goal.state),
-        Some(token) => match action_of(tables, goal.state, token) {
-            Action::Reduce(rule) => Some(rule),
-            _ => None,
-        },
-    }
-}
-
 impl<'a> Chooser<'a> {
     /// Nothing is chosen yet.
     fn new(alloc: Global, session: &'a mut Session, kind: Kind) -> Made<Chooser<'a>> {
-        let seeker = Seeker::new(alloc, session.tables())?;
+        let finder = Finder::new(alloc, session.tables().automaton())?;
+        let seeker = Seeker { alloc, finder };
         let trier = Trier::new(alloc, session)?;
         let count = trier.uses.rounds(kind).len();
         let rules = trier.uses.rounds(Kind::Rules).len();
@@ -193,38 +180,28 @@ impl<'a> Chooser<'a> {
 
     /// Offers the shortest sentence of each rule that no one uses yet, the longest first.
     fn offer_rules(&mut self) -> io::Result<()> {
-        let (contexts, order) = self.contexts()?;
-        for place in &order {
+        let (alloc, shortest) = (self.alloc, &self.seeker.finder.shortest);
+        let grammar = grammar_of(self.trier.session.tables());
+        let contexts = Contexts::new(alloc, grammar, shortest)?;
+        for place in &contexts.order(alloc, grammar, shortest)? {
             let is_done = self.rules.get(place.rule).copied().unwrap_or(true);
             if is_done || !self.seeker.finder.has_steps() {
                 continue;
             }
-            match self.rule_sentence(&contexts, *place)? {
+            let tables = self.trier.session.tables();
+            // the end counts for one token
+            let sought = if place.length > MOST_TOKENS.saturating_add(1) {
+                Sought::Long
+            } else {
+                let form = contexts.form(alloc, grammar_of(tables), place.rule)?;
+                self.seeker.sentence(tables, &form)?
+            };
+            match sought {
                 Sought::Sentence(tokens) => self.offer(tokens)?,
                 _ => self.miss(Kind::Rules, place.rule, Missing::Long),
             }
         }
         Ok(())
-    }
-
-    /// The shortest ways to rules, and the rules, the one with the longest sentence first.
-    fn contexts(&self) -> Made<(Contexts, Vec<Place>)> {
-        let (alloc, shortest) = (self.alloc, &self.seeker.finder.shortest);
-        let grammar = grammar_of(self.trier.session.tables());
-        let contexts = Contexts::new(alloc, grammar, shortest)?;
-        let order = contexts.order(alloc, grammar, shortest)?;
-        Ok((contexts, order))
-    }
-
-    /// The shortest sentence of a rule.
-    fn rule_sentence(&self, contexts: &Contexts, place: Place) -> Made<Sought> {
-        // the end counts for one token
-        if place.length > MOST_TOKENS.saturating_add(1) {
-            return Ok(Sought::Long);
-        }
-        let tables = self.trier.session.tables();
-        let form = contexts.form(self.alloc, grammar_of(tables), place.rule)?;
-        self.seeker.sentence(tables, &form)
     }
 
     /// Notes why an element of a kind isn't used, where that is the kind that is wanted.
@@ -258,23 +235,8 @@ impl<'a> Chooser<'a> {
     /// Seeks sentences for the rules that none uses yet, by cells that reduce by them; and notes
     /// why a rule isn't used that can't be.
     fn seek_rules(&mut self) -> io::Result<()> {
-        let (goals, marks) = (self.goals_of_rules()?, self.at_error()?);
-        for rule in 1..self.chosen.used.len() {
-            for goal in goals.of(rule) {
-                self.seek(*goal, rule)?;
-            }
-            let is_marked = marks.get(rule).copied().unwrap_or(false);
-            if !self.is_live(rule) {
-                self.miss(Kind::Rules, rule, Missing::Unreachable);
-            } else if goals.of(rule).is_empty() && !is_marked {
-                self.miss(Kind::Rules, rule, Missing::Lost);
-            }
-        }
-        Ok(())
-    }
-
-    /// The rules that a cell reduces by at `error`, which no parse looks up.
-    fn at_error(&self) -> Made<Vec<bool>> {
+        let goals = self.goals_of_rules()?;
+        // the rules that a cell reduces by at `error`, which no parse looks up
         let (alloc, tables) = (self.alloc, self.trier.session.tables());
         let mut marks = vec![in alloc; false; self.chosen.used.len()]?;
         for state in 0..tables.automaton().states() {
@@ -282,16 +244,23 @@ impl<'a> Chooser<'a> {
                 set(&mut marks, rule, true);
             }
         }
-        Ok(marks)
-    }
-
-    /// Whether the left side of a rule can be reached.
-    fn is_live(&self, rule: usize) -> bool {
-        let grammar = grammar_of(self.trier.session.tables());
-        match left_of(grammar, rule) {
-            Some(left) => is_reachable(grammar, left),
-            None => false,
+        for rule in 1..self.chosen.used.len() {
+            for goal in goals.of(rule) {
+                self.seek(*goal, rule)?;
+            }
+            let is_marked = marks.get(rule).copied().unwrap_or(false);
+            let grammar = grammar_of(self.trier.session.tables());
+            let is_live = match left_of(grammar, rule) {
+                Some(left) => is_reachable(grammar, left),
+                None => false,
+            };
+            if !is_live {
+                self.miss(Kind::Rules, rule, Missing::Unreachable);
+            } else if goals.of(rule).is_empty() && !is_marked {
+                self.miss(Kind::Rules, rule, Missing::Lost);
+            }
         }
+        Ok(())
     }
 
     /// The first cells that reduce by each rule that no sentence uses.
@@ -306,7 +275,12 @@ impl<'a> Chooser<'a> {
                 state: cell.state,
                 token: cell.token,
             };
-            match rule_in(tables, goal) {
+            let reduced = match (goal.token, goal.action(tables)) {
+                (None, _) => default_of(tables, goal.state),
+                (Some(_), Action::Reduce(rule)) => Some(rule),
+                _ => None,
+            };
+            match reduced {
                 Some(rule) if !self.chosen.is_used(rule) && goals.of(rule).len() < MOST_CELLS => {
                     goals.push(rule, goal)?;
                 }

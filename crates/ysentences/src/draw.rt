@@ -24,15 +24,11 @@ const LOW: u64 = 8_589_934_592;
 /// Numbers that are drawn one after the other.
 #[derive(Clone, Copy, Drop)]
 pub struct Numbers {
-    now: u64,
+    /// The number of 64 bits that was drawn last; at first the seed.
+    pub now: u64,
 }
 
 impl Numbers {
-    /// Those of a seed.
-    pub fn new(seed: u64) -> Numbers {
-        Numbers { now: seed }
-    }
-
     /// The next number, of 31 bits, modulo a count; 0 where that is 0.
     pub fn below(&mut self, count: usize) -> usize {
         self.now = self.now.wrapping_mul(FACTOR).wrapping_add(STEP);

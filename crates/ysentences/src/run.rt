@@ -164,7 +164,7 @@ fn put_drawn<W: Write, F: Files + AllocGlobal + Clone + Drop>(
     let (alloc, elements, count) = (sheet.alloc, sheet.elements, drawn.count);
     let grammar = grammar_of(elements.tables);
     let shortest = Shortest::new(alloc, grammar)?;
-    let (mut numbers, mut accepted) = (Numbers::new(drawn.seed), 0usize);
+    let (mut numbers, mut accepted) = (Numbers { now: drawn.seed }, 0usize);
     for index in 0..count {
         let Some(tokens) = draw(alloc, grammar, &shortest, &mut numbers, drawn.length)? else {
             writeln!(

@@ -4,7 +4,7 @@ use crate::trial::Trier;
 use std::alloc::{AllocError, Global};
 use std::io;
 use yexplain::reads::{Made, action_of, goto_of};
-use ylalr::{Automaton, END};
+use ylalr::END;
 use ysearch::completion::{End, Ties, end_over, rest_of};
 use ysearch::others::Others;
 use ysearch::search::{Finder, Found, Target};
@@ -42,14 +42,15 @@ pub enum Sought {
 /// What seeks sentences.
 #[derive(Drop)]
 pub struct Seeker {
-    alloc: Global,
+    /// What allocates.
+    pub alloc: Global,
     /// What searches for the ways to a state.
     pub finder: Finder,
 }
 
 impl Goal {
     /// What is done there: nothing where no token matters.
-    fn action(self, tables: &Tables) -> Action {
+    pub fn action(self, tables: &Tables) -> Action {
         match self.token {
             Some(token) => action_of(tables, self.state, token),
             None => Action::Error,
@@ -71,26 +72,7 @@ impl Goal {
     }
 }
 
-/// The states over the symbols of a way, the first state of all at the bottom.
-fn states_over(alloc: Global, automaton: &Automaton, way: &[Sym]) -> Made<Vec<usize>> {
-    let (mut states, mut state) = (Vec::new(alloc), 0);
-    states.push(state)?;
-    for symbol in way {
-        state = goto_of(automaton, state, *symbol).unwrap_or(0);
-        states.push(state)?;
-    }
-    Ok(states)
-}
-
 impl Seeker {
-    /// What seeks sentences by these tables.
-    pub fn new(alloc: Global, tables: &Tables) -> Made<Seeker> {
-        Ok(Seeker {
-            alloc,
-            finder: Finder::new(alloc, tables.automaton())?,
-        })
-    }
-
     /// The shortest sentence of a form.
     pub fn sentence(&self, tables: &Tables, form: &[Sym]) -> Made<Sought> {
         let (shortest, grammar) = (&self.finder.shortest, tables.automaton().grammar());
@@ -139,7 +121,13 @@ impl Seeker {
             (Action::Shift(_), Some(token)) => way.push(token).map_err(AllocError::from)?,
             _ => {}
         }
-        let states = states_over(self.alloc, automaton, &way)?;
+        // the states over the symbols of the way, the first state of all at the bottom
+        let (mut states, mut state) = (Vec::new(self.alloc), 0);
+        states.push(state).map_err(AllocError::from)?;
+        for symbol in &way {
+            state = goto_of(automaton, state, *symbol).unwrap_or(0);
+            states.push(state).map_err(AllocError::from)?;
+        }
         Ok(self.completed(tables, way, &states)?)
     }
 

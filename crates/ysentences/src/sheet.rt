@@ -120,23 +120,6 @@ fn put_change<W: Write>(
     }
 }
 
-/// Writes why an element wasn't found.
-fn put_missing<W: Write>(out: &mut W, missing: Missing) -> io::Result<()> {
-    match missing {
-        Missing::Late => write!(out, "# not found within {ALL_STEPS} steps: "),
-        Missing::Astray => write!(
-            out,
-            "# not found, as the parse over each list that was tried goes another way: "
-        ),
-        Missing::Long => write!(
-            out,
-            "# not found, as the shortest sentence has error, or more than {MOST_TOKENS} tokens: "
-        ),
-        Missing::Unreachable => write!(out, "# not found, as its left side can't be reached: "),
-        Missing::Lost => write!(out, "# not found, as no state reduces by it: "),
-    }
-}
-
 impl<W: Write, F: Files + AllocGlobal + Clone + Drop> Sheet<'_, W, F> {
     /// Removes the lists of an earlier run, and makes the folder, where one is wanted.
     pub fn begin(&mut self) -> io::Result<()> {
@@ -196,18 +179,6 @@ impl<W: Write, F: Files + AllocGlobal + Clone + Drop> Sheet<'_, W, F> {
         verdict_on(self.alloc, self.elements.tables, &Tokens { symbols })
     }
 
-    /// How a list is written.
-    fn shown(&self, tokens: &[Sym]) -> io::Result<Shown> {
-        let Some(writer) = self.writer else {
-            return Ok(Shown::Tokens);
-        };
-        let grammar = grammar_of(self.elements.tables);
-        match writer.text(self.alloc, grammar, tokens)? {
-            Some(text) => Ok(Shown::Text(text)),
-            None => Ok(Shown::Untold),
-        }
-    }
-
     /// What a file of a list that is shown so has; `None` where it has no file.
     fn filed(&self, tokens: &[Sym], shown: &Shown) -> io::Result<Option<Vec<u8>>> {
         let grammar = grammar_of(self.elements.tables);
@@ -231,7 +202,15 @@ impl<W: Write, F: Files + AllocGlobal + Clone + Drop> Sheet<'_, W, F> {
         tokens: &[Sym],
         is_near: bool,
     ) -> io::Result<()> {
-        let (shown, elements) = (self.shown(tokens)?, self.elements);
+        let elements = self.elements;
+        let grammar = grammar_of(elements.tables);
+        let shown = match self.writer {
+            Some(writer) => match writer.text(self.alloc, grammar, tokens)? {
+                Some(text) => Shown::Text(text),
+                None => Shown::Untold,
+            },
+            None => Shown::Tokens,
+        };
         if let Some(text) = self.filed(tokens, &shown)? {
             let path = if is_near {
                 self.near_folder.store_text(numbers, &text)?
@@ -242,7 +221,7 @@ impl<W: Write, F: Files + AllocGlobal + Clone + Drop> Sheet<'_, W, F> {
                 writeln!(self.out, "# saved in {path}")?;
             }
         }
-        put_shown(self.out, grammar_of(elements.tables), tokens, &shown)
+        put_shown(self.out, grammar, tokens, &shown)
     }
 
     /// Writes the lists that are near to a sentence, where they are wanted, each with its verdict.
@@ -272,7 +251,20 @@ impl<W: Write, F: Files + AllocGlobal + Clone + Drop> Sheet<'_, W, F> {
 
     /// Writes an element that no sentence uses, and why.
     pub fn put_unused(&mut self, kind: Kind, element: usize, missing: Missing) -> io::Result<()> {
-        put_missing(self.out, missing)?;
+        write!(self.out, "# not found")?;
+        match missing {
+            Missing::Late => write!(self.out, " within {ALL_STEPS} steps: ")?,
+            Missing::Astray => write!(
+                self.out,
+                ", as the parse over each list that was tried goes another way: "
+            )?,
+            Missing::Long => write!(
+                self.out,
+                ", as the shortest sentence has error, or more than {MOST_TOKENS} tokens: "
+            )?,
+            Missing::Unreachable => write!(self.out, ", as its left side can't be reached: ")?,
+            Missing::Lost => write!(self.out, ", as no state reduces by it: ")?,
+        }
         self.elements.put_line(self.out, kind, element)
     }
 

@@ -54,8 +54,9 @@ pub fn walk_all(alloc: Global, tables: Tables, inputs: &[Input]) -> io::Result<W
     })
 }
 
-/// Writes how many of each kind were used.
-fn put_counts<W: Write>(out: &mut W, uses: &Uses) -> io::Result<()> {
+/// Writes how many of each kind were used, and a line for each element that never was, and says
+/// whether all was.
+pub fn put_report<W: Write>(out: &mut W, elements: Elements<'_>, uses: &Uses) -> io::Result<bool> {
     for (place, kind) in KINDS.iter().enumerate() {
         let rounds = uses.rounds(*kind).get(kind.first()..).unwrap_or(&[]);
         let mut used: usize = 0;
@@ -66,12 +67,7 @@ fn put_counts<W: Write>(out: &mut W, uses: &Uses) -> io::Result<()> {
         let (word, all) = (kind.word(0), rounds.len());
         write!(out, "{front}{word} {used} of {all}")?;
     }
-    writeln!(out)
-}
-
-/// Writes what was used, and a line for each element that never was, and says whether all was.
-pub fn put_report<W: Write>(out: &mut W, elements: Elements<'_>, uses: &Uses) -> io::Result<bool> {
-    put_counts(out, uses)?;
+    writeln!(out)?;
     let mut is_all = true;
     for kind in &KINDS {
         for (number, round) in uses.rounds(*kind).iter().enumerate() {

@@ -11,7 +11,7 @@ const SPACES: &[u8; 80] =
 const WIDTH: usize = 78;
 
 /// How a piece of text looks where there is colour.
-#[derive(Clone, Copy, PartialEq, Eq)]
+#[derive(Clone, Copy)]
 pub enum Paint {
     /// As any text.
     Plain,

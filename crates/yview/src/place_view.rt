@@ -69,9 +69,12 @@ fn put_top<W: Write>(page: &mut Page<W>, session: &Session) {
     page.end();
 }
 
-/// The first of the upcoming tokens.
-fn put_next<W: Write>(page: &mut Page<W>, session: &Session) {
-    let grammar = grammar_of(session.tables());
+/// The whole configuration in some lines: its head, its stack, the first of the upcoming tokens, and
+/// its state.
+pub fn put_where<W: Write>(page: &mut Page<W>, session: &Session, tokens: usize) {
+    put_head(page, session, tokens);
+    put_top(page, session);
+    let (tables, state) = (session.tables(), session.state());
     let len = session.view().rest_len();
     page.put(match len {
         0 => "upcoming  (none)",
@@ -79,18 +82,10 @@ fn put_next<W: Write>(page: &mut Page<W>, session: &Session) {
     });
     for index in 0..len.min(SOME) {
         page.put(" ");
-        page.put(name_of(grammar, upcoming_token(session, index).0));
+        page.put(name_of(grammar_of(tables), upcoming_token(session, index).0));
     }
     page.put(if len > SOME { " .." } else { "" });
     page.end();
-}
-
-/// The whole configuration in some lines.
-pub fn put_where<W: Write>(page: &mut Page<W>, session: &Session, tokens: usize) {
-    put_head(page, session, tokens);
-    put_top(page, session);
-    put_next(page, session);
-    let (tables, state) = (session.tables(), session.state());
     let _ = writeln!(page, "state {state}");
     put_kernel(page, tables, state, token_ahead(session));
 }

@@ -165,27 +165,9 @@ impl<'a> Shown<'a> {
         }
     }
 
-    /// The tokens at which a rule is reduced without a conflict, where there are any.
-    fn put_reduction<W: Write>(self, page: &mut Page<W>, rule: usize) {
-        let mut begun = false;
-        let reduction = Action::Reduce(rule);
-        for token in 0..token_count(self.grammar()) {
-            let action = action_of(self.tables, self.state, token);
-            if action == reduction && !self.is_apart(token, reduction) {
-                if !begun {
-                    begun = true;
-                    let _ = write!(page, "   reduce by rule {rule} on");
-                }
-                page.word(6, name_of(self.grammar(), token));
-            }
-        }
-        if begun {
-            page.end();
-        }
-    }
-
-    /// The actions: shifts and what was settled by token, and then reductions by rule; one line
-    /// where the state reduces at every token.
+    /// The actions: shifts and what was settled by token, and then by rule the tokens at which that
+    /// is reduced without a conflict, where there are any; one line where the state reduces at every
+    /// token.
     fn put_actions<W: Write>(self, page: &mut Page<W>) {
         if let Some(rule) = default_of(self.tables, self.state) {
             let _ = writeln!(page, "   any token         reduce by rule {rule}");
@@ -193,8 +175,23 @@ impl<'a> Shown<'a> {
         }
         self.put_cells(page);
         for item in self.items() {
-            if is_complete(self.grammar(), *item) {
-                self.put_reduction(page, item.rule);
+            if !is_complete(self.grammar(), *item) {
+                continue;
+            }
+            let (rule, mut begun) = (item.rule, false);
+            let reduction = Action::Reduce(rule);
+            for token in 0..token_count(self.grammar()) {
+                let action = action_of(self.tables, self.state, token);
+                if action == reduction && !self.is_apart(token, reduction) {
+                    if !begun {
+                        begun = true;
+                        let _ = write!(page, "   reduce by rule {rule} on");
+                    }
+                    page.word(6, name_of(self.grammar(), token));
+                }
+            }
+            if begun {
+                page.end();
             }
         }
     }
