@@ -69,6 +69,22 @@ fn rule_at(code: &Code, state: usize, token: Sym) -> Option<usize> {
     }
 }
 
+/// That an error is detected in a state after reductions by these rules, where there are some, and
+/// this is known.
+fn late_of(is_known: bool, state: usize, rules: Vec<usize>) -> Option<Late> {
+    let policy = "most";
+    if rules.is_empty() || !is_known {
+        drop(rules);
+        None
+    } else {
+        Some(Late {
+            policy,
+            state,
+            rules,
+        })
+    }
+}
+
 impl Defaults {
     /// Nothing was asked for yet.
     pub fn new() -> Defaults {
@@ -94,8 +110,10 @@ impl Defaults {
         };
         let mut states = Vec::from_slice(alloc, &rejection.states)?;
         let (mut state, mut rules) = (rejection.state, Vec::new(alloc));
+        let mut is_known = false;
         for _ in 0..MOST_REDUCTIONS {
             let Some(rule) = rule_at(code, state, token) else {
+                is_known = true;
                 break;
             };
             let length = code.lengths.as_slice().get(rule).copied().unwrap_or(0);
@@ -111,15 +129,7 @@ impl Defaults {
             rules.push(rule)?;
             state = next;
         }
-        if rules.is_empty() {
-            return Ok(None);
-        }
-        let policy = "most";
-        Ok(Some(Late {
-            policy,
-            state,
-            rules,
-        }))
+        Ok(late_of(is_known, state, rules))
     }
 }
 
