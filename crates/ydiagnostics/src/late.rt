@@ -141,8 +141,8 @@ impl Late {
         let rules = if self.rules.len() == 1 { "rule" } else { "rules" };
         let _ = write!(
             text,
-            "a parser with default reductions (lr.default-reduction {policy}) detects this in state \
-             {state}, after reducing by {rules}"
+            "a parser with default reductions (lr.default-reduction {policy}) detects this in \
+             state {state}, after reducing by {rules}"
         );
         for (place, rule) in self.rules.iter().take(MOST_NAMED).enumerate() {
             let front = if place > 0 { ", " } else { " " };

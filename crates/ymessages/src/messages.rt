@@ -159,9 +159,9 @@ impl Messages {
         Messages::either(rt.alloc(), inputs, file.path, bytes, told)
     }
 
-    /// A file of these bytes likewise, by its path, for the tables of a grammar file. Its inputs are
-    /// cut by the SPEC at a path, where there is one, or are all tokens; without it, those of texts
-    /// stand below them.
+    /// A file of these bytes likewise, by its path, for the tables of a grammar file. Its inputs
+    /// are cut by the SPEC at a path, where there is one, or are all tokens; without it, those of
+    /// texts stand below them.
     pub fn by_spec<F: Files + AllocGlobal>(
         rt: &F,
         (grammar, tables): (&str, &Tables),
