@@ -189,7 +189,9 @@ impl Graph<'_> {
     fn default_rule(self, state: usize) -> Option<usize> {
         let code = self.code;
         let number = *code.sets.as_slice().get(state)?;
-        let place = number.saturating_mul(code.span).saturating_add(code.tokens / 8);
+        let place = number
+            .saturating_mul(code.span)
+            .saturating_add(code.tokens / 8);
         let byte = code.bits.as_slice().get(place).copied().unwrap_or(0);
         if number == 0 || byte & *BITS.get(code.tokens % 8)? != 0 {
             code.usual.as_slice().get(state).copied()

@@ -124,7 +124,10 @@ fn write_all(rt: &HostRuntime, given: Given<'_>, texts: &[Text<'_>]) -> Result<(
         outputs.push(Some(text.path))?;
     }
     let grammar = given.grammar;
-    let (messages, spec) = (given.messages.unwrap_or(grammar), given.spec.unwrap_or(grammar));
+    let (messages, spec) = (
+        given.messages.unwrap_or(grammar),
+        given.spec.unwrap_or(grammar),
+    );
     let inputs = [grammar, messages, spec];
     if let Some(clash) = clash_of(rt, &outputs, &inputs)? {
         let mut out = Output::new(rt.alloc());

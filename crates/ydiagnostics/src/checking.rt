@@ -74,7 +74,14 @@ impl Asked<'_> {
         let message = message.as_ref().map(Vec::as_slice);
         let (source, spoken) = ((path, source.as_slice()), language.spoken());
         let late = defaults.late(alloc, &opened.tables, &verdict)?;
-        answer_of(alloc, told, spoken, source, (&input, &verdict, late), message)
+        answer_of(
+            alloc,
+            told,
+            spoken,
+            source,
+            (&input, &verdict, late),
+            message,
+        )
     }
 }
 

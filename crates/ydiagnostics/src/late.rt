@@ -47,7 +47,12 @@ pub struct Defaults {
 fn rule_at(code: &Code, state: usize, token: Sym) -> Option<usize> {
     let usual = code.usual.as_slice().get(state).copied();
     let number = *code.sets.as_slice().get(state)?;
-    let place = code.actions.rows.as_slice().get(state)?.saturating_add(token);
+    let place = code
+        .actions
+        .rows
+        .as_slice()
+        .get(state)?
+        .saturating_add(token);
     if number == 0 {
         return usual;
     }
@@ -138,7 +143,11 @@ impl Late {
     pub fn text(&self, alloc: Global) -> Made<Vec<u8>> {
         let (policy, state) = (self.policy, self.state);
         let mut text = Vec::new(alloc);
-        let rules = if self.rules.len() == 1 { "rule" } else { "rules" };
+        let rules = if self.rules.len() == 1 {
+            "rule"
+        } else {
+            "rules"
+        };
         let _ = write!(
             text,
             "a parser with default reductions (lr.default-reduction {policy}) detects this in \

@@ -58,12 +58,7 @@ struct About<'a> {
 }
 
 /// That no line of a SPEC gives a token, with its place in the grammar file.
-fn ungiven(
-    alloc: Global,
-    spec: &str,
-    about: About<'_>,
-    token: Sym,
-) -> io::Result<Diagnostic> {
+fn ungiven(alloc: Global, spec: &str, about: About<'_>, token: Sym) -> io::Result<Diagnostic> {
     let mut first = None;
     if let Some(lines) = about.lines {
         let mention = lines.mentions().iter().find(|it| it.symbol == token);
@@ -173,9 +168,7 @@ impl Fault {
             }
             What::Long => Limited { path, most }.too_long(rt, true),
             What::LongSpec => Limited { path, most }.too_long(rt, false),
-            What::Tokens(fault) => {
-                file_fault(alloc, about.grammar, (path, &self.bytes), fault)
-            }
+            What::Tokens(fault) => { file_fault(alloc, about.grammar, (path, &self.bytes), fault) }
             What::Unmatched(at) => unmatched(alloc, self.place(at)),
             What::TooMany(at) => too_many(alloc, self.place(at)),
             What::Spec(at, wrong) => self.line_fault(alloc, at, wrong),

@@ -172,14 +172,22 @@ impl Messages {
         let Some(spec) = spec else {
             let lexer = None;
             let noted = true;
-            let inputs = Inputs { tables, lexer, noted };
+            let inputs = Inputs {
+                tables,
+                lexer,
+                noted,
+            };
             return Messages::checked(rt.alloc(), inputs, path, bytes, told);
         };
         match read_lexer(rt, tables, spec)? {
             Ok(lexer) => {
                 let lexer = Some(&lexer);
                 let noted = false;
-                let inputs = Inputs { tables, lexer, noted };
+                let inputs = Inputs {
+                    tables,
+                    lexer,
+                    noted,
+                };
                 Messages::either(rt.alloc(), inputs, path, bytes, told)
             }
             Err(fault) => fault.tell_of(rt, told, grammar, tables).map(Err),

@@ -42,7 +42,12 @@ fn put_word<W: Write>(page: &mut Page<W>, number: usize, word: &str) {
         1..=9 => 3,
         _ => 4,
     };
-    if page.column().saturating_add(word.len()).saturating_add(front) >= WIDTH {
+    if page
+        .column()
+        .saturating_add(word.len())
+        .saturating_add(front)
+        >= WIDTH
+    {
         page.end();
         page.put(FURTHER);
     }
