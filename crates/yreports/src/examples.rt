@@ -30,18 +30,10 @@ pub struct Heading<'a> {
 }
 
 /// What seeks examples.
+#[derive(Drop)]
 struct Search<'a> {
     seeker: Seeker<'a>,
     found: Ambiguities,
-}
-
-impl Drop for Search<'_> {
-    fn drop(self) {
-        let Search {
-            seeker: _,
-            found: _,
-        } = self;
-    }
 }
 
 impl Heading<'_> {
