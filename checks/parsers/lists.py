@@ -75,13 +75,14 @@ def parser_of(folder, grammar, ycc):
 
 
 def told_of(grammar, lists, programs):
-    """What `ydebug check` expects in place of the wrong token of each list."""
+    """What `ydebug check` expects in place of the wrong token of each list, and of which tokens it
+    can't tell."""
     files = {"grammar": grammar}
     for number, names in enumerate(lists):
         files[f"input{number}"] = f"{' '.join(names)}\n".encode()
     words = ["ydebug", "check", "--format", "json", "grammar", *list(files)[1:]]
     run = messages.told_by(proved, programs, [messages.run_of(words, files)])[0]
-    return [it["expected"] for it in json.loads(run["stdout"])["inputs"]]
+    return [(it["expected"], it["unknown"]) for it in json.loads(run["stdout"])["inputs"]]
 
 
 def difference(grammar, cases, programs):
@@ -94,12 +95,12 @@ def difference(grammar, cases, programs):
         program, why = parser_of(folder, grammar, programs["ycc"])
         if program is None:
             return why
-        for (table, names), expected in zip(lists, wanted, strict=True):
+        for (table, names), (expected, unknown) in zip(lists, wanted, strict=True):
             known = table_of(table)
             kinds = {name: kind for kind, name in enumerate(known.names[: known.tokens])}
             given = " ".join(str(kinds[name]) for name in names)
             said = running.ran([program], given=given).stdout.partition("=")[2].split()
-            made = [known.names[int(kind)] for kind in said]
+            made = [name for kind in said if (name := known.names[int(kind)]) not in unknown]
             if made != expected:
                 return f"{grammar.decode()}\n{names}\nydebug:\n{expected}\nthe parser:\n{made}"
     return ""

@@ -238,6 +238,29 @@ class Features(Planted):
             with mock.patch.object(features, "run", side_effect=both):
                 self.assertEqual(bool(self.look(features.compare_told, file, "ycc", None)), wrong)
 
+    def test_graphs(self):
+        """States have other numbers; another edge, another label, a state that isn't there."""
+        file = self.room / "some.y"
+        file.write_text("/* bison draws: -Wnone */\n%%\ns : 'a' 'b' ;\n")
+        first = '// bison\n\n  0 [label="State 0\\n\\l"]\n  0 -> 1 [style=solid label="a"]\n'
+        first += '  0 -> 2 [style=dashed label="s"]\n  1 [label="State 1\\n\\l"]\n'
+        first += '  2 [label="State 2\\n\\l"]\n  2 -> "2R0" [style=solid]\n "2R0" [label="Acc"]\n}\n'
+        other = first.translate(str.maketrans("12", "21")).replace("bison", "ycc")
+        for text, wrong in (
+            (first, False), (other, False), (other.replace("solid", "dotted", 1), True),
+            (other.replace("Acc", "R1"), True), (first.replace('"2R', '"1R'), True),
+        ):
+            graphs = iter([first, text])
+
+            def draw(_words, room, **_how):
+                """A run that writes a graph."""
+                Path(f"{room}/parser.dot").write_text(next(graphs))
+                return ended(b"", b"", 0)
+
+            with mock.patch.object(features, "run", side_effect=draw):
+                found = self.look(features.compare_graph, file, "ycc", None)
+                self.assertEqual(bool(found), wrong)
+
     def test_warnings(self):
         """A compiler's warning fails a case of ycc."""
         (self.room / "grammar.y").write_text("")

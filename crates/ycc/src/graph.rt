@@ -97,7 +97,10 @@ impl Graph<'_> {
                 out.put("$@");
                 out.put_bytes(number);
             }
-            (None, _) => put_quoted(out, escape_in(name).unwrap_or(name)),
+            (None, _) => match escape_in(name) {
+                Some(escape) => put_quoted(out, escape),
+                None => put_quoted(out, name),
+            },
         }
     }
 

@@ -193,7 +193,7 @@ fn put_what(out: &mut Output, what: What<'_>) {
 }
 
 /// Whether conflicts are found.
-pub fn is_conflict(what: What<'_>) -> bool {
+fn is_conflict(what: What<'_>) -> bool {
     matches!(
         what,
         What::Shifts(_)

@@ -3,7 +3,7 @@
 use crate::ending::{Ending, File};
 use crate::examples::tell_examples;
 use crate::reading::Reading;
-use crate::saying::{diagnostic_of, is_conflict, put_counts};
+use crate::saying::{diagnostic_of, put_counts};
 use std::alloc::Global;
 use std::mem;
 use yexplain::reads::Made;
@@ -219,7 +219,7 @@ fn end(
     read.find_conflicts(rt.alloc(), wanted.is_bison, &mut found)?;
     let (is_refused, is_told) = tell(rt, file, wanted, &found)?;
     let telling = wanted.kinds.telling(Kind::Counterexamples, false);
-    let has_conflicts = found.iter().any(|it| is_conflict(it.what));
+    let has_conflicts = read.shift_reduce > 0 || read.reduce_reduce > 0;
     if has_conflicts && telling != Telling::Not {
         tell_examples(rt, file, telling)?;
     }

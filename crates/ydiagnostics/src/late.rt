@@ -74,6 +74,22 @@ fn rule_at(code: &Code, state: usize, token: Sym) -> Option<usize> {
     }
 }
 
+/// That an error is detected in a state after reductions by these rules, where there are some, and
+/// this is known.
+fn late_of(is_known: bool, state: usize, rules: Vec<usize>) -> Option<Late> {
+    let policy = "most";
+    if rules.is_empty() || !is_known {
+        drop(rules);
+        None
+    } else {
+        Some(Late {
+            policy,
+            state,
+            rules,
+        })
+    }
+}
+
 impl Defaults {
     /// Nothing was asked for yet.
     pub fn new() -> Defaults {
@@ -99,8 +115,10 @@ impl Defaults {
         };
         let mut states = Vec::from_slice(alloc, &rejection.states)?;
         let (mut state, mut rules) = (rejection.state, Vec::new(alloc));
+        let mut is_known = false;
         for _ in 0..MOST_REDUCTIONS {
             let Some(rule) = rule_at(code, state, token) else {
+                is_known = true;
                 break;
             };
             let length = code.lengths.as_slice().get(rule).copied().unwrap_or(0);
@@ -116,15 +134,7 @@ impl Defaults {
             rules.push(rule)?;
             state = next;
         }
-        if rules.is_empty() {
-            return Ok(None);
-        }
-        let policy = "most";
-        Ok(Some(Late {
-            policy,
-            state,
-            rules,
-        }))
+        Ok(late_of(is_known, state, rules))
     }
 }
 
@@ -140,8 +150,8 @@ impl Late {
         };
         let _ = write!(
             text,
-            "a parser with default reductions (lr.default-reduction {policy}) detects this in state \
-             {state}, after reducing by {rules}"
+            "a parser with default reductions (lr.default-reduction {policy}) detects this in \
+             state {state}, after reducing by {rules}"
         );
         for (place, rule) in self.rules.iter().take(MOST_NAMED).enumerate() {
             let front = if place > 0 { ", " } else { " " };

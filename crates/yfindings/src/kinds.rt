@@ -175,11 +175,10 @@ impl Kinds {
             }
             return Ok(());
         }
-        let number = number_of(if name == "cex" {
-            "counterexamples"
-        } else {
-            name
-        })?;
+        let number = match name {
+            "cex" => number_of("counterexamples")?,
+            _ => number_of(name)?,
+        };
         self.set(number, word, is_error);
         Ok(())
     }

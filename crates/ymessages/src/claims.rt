@@ -74,10 +74,10 @@ fn came_of(verdict: &Verdict, count: usize, ended: bool) -> Came {
 /// words, which may go on in further lines.
 fn noted_below(alloc: Global, source: &[u8], line: Span) -> Made<Option<(Span, Vec<u8>)>> {
     let mut start = line.end.saturating_add(1);
-    let mut front = TOKENS;
     let (mut place, mut words) = (None, Vec::new(alloc));
     for bytes in source.get(start..).unwrap_or(&[]).split(|b| *b == b'\n') {
         let end = start.saturating_add(bytes.len());
+        let front = if place.is_none() { TOKENS } else { FURTHER };
         let Some(rest) = bytes.strip_prefix(front.as_bytes()) else {
             break;
         };
@@ -85,7 +85,6 @@ fn noted_below(alloc: Global, source: &[u8], line: Span) -> Made<Option<(Span, V
         start = end.saturating_sub(rest.len());
         place = place.or(Some(Span { start, end }));
         start = end.saturating_add(1);
-        front = FURTHER;
     }
     match place {
         Some(place) => Ok(Some((place, words))),

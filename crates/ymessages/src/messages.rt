@@ -136,7 +136,7 @@ impl Messages {
         bytes: Vec<u8>,
         told: &mut Diagnostics,
     ) -> io::Result<Result<Messages, u8>> {
-        let inputs = if has_tokens_alone(alloc, inputs.tables, &bytes)? {
+        let inputs = if !inputs.noted && has_tokens_alone(alloc, inputs.tables, &bytes)? {
             Inputs::of_tokens(inputs.tables)
         } else {
             inputs
@@ -159,9 +159,9 @@ impl Messages {
         Messages::either(rt.alloc(), inputs, file.path, bytes, told)
     }
 
-    /// A file of these bytes likewise, by its path, for the tables of a grammar file. Its inputs are
-    /// cut by the SPEC at a path, where there is one, or are all tokens; without it, those of texts
-    /// stand below them.
+    /// A file of these bytes likewise, by its path, for the tables of a grammar file. Its inputs
+    /// are cut by the SPEC at a path, where there is one, or are all tokens; without it, those of
+    /// texts stand below them.
     pub fn by_spec<F: Files + AllocGlobal>(
         rt: &F,
         (grammar, tables): (&str, &Tables),
@@ -169,29 +169,19 @@ impl Messages {
         (path, bytes): (&str, Vec<u8>),
         told: &mut Diagnostics,
     ) -> io::Result<Result<Messages, u8>> {
-        let Some(spec) = spec else {
-            let lexer = None;
-            let noted = true;
-            let inputs = Inputs {
-                tables,
-                lexer,
-                noted,
-            };
-            return Messages::checked(rt.alloc(), inputs, path, bytes, told);
+        let lexer = match spec {
+            None => None,
+            Some(spec) => match read_lexer(rt, tables, spec)? {
+                Ok(lexer) => Some(lexer),
+                Err(fault) => return fault.tell_of(rt, told, grammar, tables).map(Err),
+            },
         };
-        match read_lexer(rt, tables, spec)? {
-            Ok(lexer) => {
-                let lexer = Some(&lexer);
-                let noted = false;
-                let inputs = Inputs {
-                    tables,
-                    lexer,
-                    noted,
-                };
-                Messages::either(rt.alloc(), inputs, path, bytes, told)
-            }
-            Err(fault) => fault.tell_of(rt, told, grammar, tables).map(Err),
-        }
+        let inputs = Inputs {
+            tables,
+            lexer: lexer.as_ref(),
+            noted: lexer.is_none(),
+        };
+        Messages::either(rt.alloc(), inputs, path, bytes, told)
     }
 
     /// The message of a state, where it has one.

@@ -50,7 +50,7 @@ pub fn rivals_of(entry: &Entry, rule: usize) -> Rivals {
 
 /// What can be found for a conflict: for what is taken and each of the first rules beside it, up to
 /// one with which there is a sentence with two trees; a sentence for each where these are wanted.
-fn answers_of(
+pub fn answers_of(
     alloc: Global,
     seeker: &mut Seeker<'_>,
     found: &mut Ambiguities,

@@ -1,12 +1,13 @@
 //! `ycc -Wcounterexamples`: an example for each conflict, with the derivations of its rivals, laid
 //! out as bison does.
 
-use crate::ambiguity::{block_answers, put_answers};
+use crate::ambiguity::{answers_of, put_answers};
 use crate::ambiguity_text::AmbiguityText;
-use crate::blocks::{Block, blocks_of};
+use crate::blocks::{Block, Entry, blocks_of};
 use std::alloc::Global;
 use std::io::{self, Write};
 use yambiguity::answer::{Ambiguities, Answer};
+use yexplain::lines::Lines;
 use yexplain::reads::{Made, grammar_of};
 use yexplain::text::{Name, Names};
 use yfaults::opening::Opened;
@@ -14,40 +15,47 @@ use ylists::list_text::put_unfound;
 use ysearch::finding::{Finding, Seeker};
 use ysearch::groups::Conflicts;
 use ysearch::trial::empty_session;
-use ysymbols::Grammar;
+use ysymbols::{Grammar, Sym};
 use yview::page::Page;
 
-/// What stands between the parts of a line of bison's that differ.
+/// What stands in the lines that say which conflicts there are.
 #[derive(Clone, Copy)]
 pub struct Heading<'a> {
     /// The path of the grammar file.
     pub path: &'a str,
-    /// How bad the conflict is, and the name of its option.
+    /// How bad a conflict is.
     pub severity: &'static str,
+    /// The option that tells of it.
     pub option: &'static str,
 }
 
+/// What seeks examples.
+#[derive(Drop)]
+struct Search<'a> {
+    seeker: Seeker<'a>,
+    found: Ambiguities,
+}
+
 impl Heading<'_> {
-    /// Writes which tokens a block is about.
-    fn put<W: Write>(self, page: &mut Page<W>, grammar: &Grammar, block: &Block) {
+    /// Writes on which tokens a conflict is.
+    fn put<W: Write>(
+        self,
+        page: &mut Page<W>,
+        grammar: &Grammar,
+        (is_shift, tokens): (bool, &[Sym]),
+    ) {
         page.put(self.path);
         page.put(": ");
         page.put(self.severity);
-        page.put(if block.first.kind.shift {
+        page.put(if is_shift {
             ": shift/reduce conflict on token"
         } else {
             ": reduce/reduce conflict on token"
         });
-        let mut is_begun = false;
-        let is_one = block.classes.len() == 1
-            && block.classes.first().map_or(0, |class| class.entries.len()) == 1;
-        page.put(if is_one { " " } else { "s " });
-        for class in &block.classes {
-            for entry in &class.entries {
-                page.put(if is_begun { ", " } else { "" });
-                page.show(Name(grammar, entry.kind.token));
-                is_begun = true;
-            }
+        page.put(if tokens.len() == 1 { " " } else { "s " });
+        for (place, token) in tokens.iter().enumerate() {
+            page.put(if place > 0 { ", " } else { "" });
+            page.show(Name(grammar, *token));
         }
         page.put(" [");
         page.put(self.option);
@@ -55,13 +63,13 @@ impl Heading<'_> {
     }
 }
 
-/// Writes what was found for a block: a sentence with two trees, or a sentence for each rival, or a
-/// list of tokens up to the conflict.
+/// Writes what was found for a conflict: a sentence with two trees, or a sentence for each rival, or
+/// a list of tokens up to the conflict.
 fn put_found<W: Write>(
     alloc: Global,
     page: &mut Page<W>,
     text: AmbiguityText<'_>,
-    block: &Block,
+    token: Sym,
     (finding, answers): (&Finding, &[Answer]),
 ) -> Made<()> {
     for answer in answers {
@@ -71,7 +79,7 @@ fn put_found<W: Write>(
     }
     put_answers(alloc, page, text, answers)?;
     if answers.is_empty() {
-        let token = Name(text.grammar, block.first.kind.token);
+        let token = Name(text.grammar, token);
         for list in &finding.lists {
             let names = Names(text.grammar, &list.tokens);
             let _ = writeln!(page, "  Example:{names} • {token}");
@@ -79,6 +87,61 @@ fn put_found<W: Write>(
         put_unfound(page, finding);
     }
     Ok(())
+}
+
+impl Search<'_> {
+    /// Writes an example for a conflict, which is on these tokens.
+    fn put<W: Write>(
+        &mut self,
+        alloc: Global,
+        page: &mut Page<W>,
+        (heading, lines): (Heading<'_>, &Lines),
+        (entry, tokens): (&Entry, &[Sym]),
+    ) -> io::Result<()> {
+        let kind = &entry.kind;
+        let grammar = grammar_of(self.seeker.session.tables());
+        heading.put(page, grammar, (kind.shift, tokens));
+        if !self.seeker.finder.has_steps() {
+            page.line("  The search for an example would take too long.");
+            return page.checked();
+        }
+        let finding = self.seeker.find(kind, entry.group)?;
+        let asked = (entry, &finding);
+        let answers = answers_of(alloc, &mut self.seeker, &mut self.found, asked, true)?;
+        let text = AmbiguityText {
+            grammar: grammar_of(self.seeker.session.tables()),
+            lines,
+            trees: &self.found.trees,
+            dot: "•",
+        };
+        put_found(alloc, page, text, kind.token, (&finding, &answers))?;
+        page.checked()
+    }
+
+    /// Writes examples for the conflicts of a block: with a shift one for each token, else one for
+    /// all.
+    fn put_block<W: Write>(
+        &mut self,
+        alloc: Global,
+        page: &mut Page<W>,
+        by: (Heading<'_>, &Lines),
+        block: &Block,
+    ) -> io::Result<()> {
+        let mut tokens = Vec::new(alloc);
+        for class in &block.classes {
+            for entry in &class.entries {
+                let token = entry.kind.token;
+                tokens.push(token)?;
+                if entry.kind.shift {
+                    self.put(alloc, page, by, (entry, &[token]))?;
+                }
+            }
+        }
+        if block.first.kind.shift {
+            return Ok(());
+        }
+        self.put(alloc, page, by, (&block.first, &tokens))
+    }
 }
 
 /// Writes the examples of a grammar that is open.
@@ -92,24 +155,13 @@ pub fn put_examples<W: Write>(
     let mut session = empty_session(alloc, tables);
     let found = Conflicts::new(alloc, session.tables())?;
     let blocks = blocks_of(alloc, session.tables(), &lines, &found)?;
-    let mut seeker = Seeker::new(alloc, &mut session)?;
-    let mut ambiguities = Ambiguities::new(alloc);
+    let mut search = Search {
+        seeker: Seeker::new(alloc, &mut session)?,
+        found: Ambiguities::new(alloc),
+    };
     let mut page = Page::new(out, false);
     for block in &blocks.list {
-        heading.put(&mut page, grammar_of(seeker.session.tables()), block);
-        if !seeker.finder.has_steps() {
-            page.line("  The search for an example would take too long.");
-            continue;
-        }
-        let finding = seeker.find(&block.first.kind, block.first.group)?;
-        let answers = block_answers(alloc, &mut seeker, &mut ambiguities, block, &finding)?;
-        let text = AmbiguityText {
-            grammar: grammar_of(seeker.session.tables()),
-            lines: &lines,
-            trees: &ambiguities.trees,
-            dot: "•",
-        };
-        put_found(alloc, &mut page, text, block, (&finding, &answers))?;
+        search.put_block(alloc, &mut page, (heading, &lines), block)?;
     }
     page.checked()
 }

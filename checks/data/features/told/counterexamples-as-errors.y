@@ -1,0 +1,8 @@
+/* bison tells: -Wnone -Wcounterexamples -Werror=counterexamples */
+%token NUM
+%left '*'
+%%
+e : e '+' e
+  | e '*' e
+  | NUM
+  ;

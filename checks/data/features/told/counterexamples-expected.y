@@ -1,0 +1,7 @@
+/* bison tells: -Wcounterexamples -Wall */
+%token NUM
+%expect 1
+%%
+e : e '+' e
+  | NUM
+  ;
