@@ -27,6 +27,8 @@ from checks.shared.tally import Tally
 BLOCK = re.compile(r"(?m)^(?!#)(.+)\n## state (\d+)\n((?:##.*\n)*)")
 TAIL = re.compile(r"(?m)^## (no error, since [^:]*|not found [^:]*|inputs of [^:]*):(.*)$")
 HEAD = re.compile(r"## .*: an error can be detected in (\d+) of (\d+) states\.\n")
+# What a message calls an entry of the stack.
+ENTRY = re.compile(r"(?<![^ ])\$(\d+)=")
 # A parse that makes so many reductions in a row counts as one without an end.
 MOST_REDUCTIONS = 300
 # The search over stacks ends where it has more, or comes to longer lists.
@@ -118,10 +120,12 @@ class Told:
             self.states += map(int, numbers.split())
 
     def listed(self, state, title, names):
-        """The symbols that are listed after a title in the comments of a list."""
+        """The symbols that are listed after a title in the comments of a list, and the numbers
+        before those that have some."""
         found = re.search(rf"(?m)^## {title} +(.*)$", self.lists[state][1])
         words = found[1] if found and found[1] != "(nothing)" else ""
-        return [names.index(it) for it in names_of(words.encode())]
+        symbols = [names.index(it) for it in names_of(ENTRY.sub("", words).encode())]
+        return symbols, [int(it) for it in ENTRY.findall(words)]
 
 
 def wrong_list(machine, told, state):
@@ -134,9 +138,10 @@ def wrong_list(machine, told, state):
     _, stack, before = found
     if (stack[-1] if stack else 0) != state:
         return f"state {state}: the error is detected in another state"
-    if told.listed(state, "stack", names) != [machine.symbols[it] for it in stack]:
+    numbers = list(range(len(stack), 0, -1))
+    if told.listed(state, "stack", names) != ([machine.symbols[it] for it in stack], numbers):
         return f"state {state}: the stack"
-    if sorted(told.listed(state, "expected", names)) != machine.wanted(before):
+    if sorted(told.listed(state, "expected", names)[0]) != machine.wanted(before):
         return f"state {state}: what could come"
     return None
 

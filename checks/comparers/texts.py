@@ -18,6 +18,7 @@ from functools import partial
 from pathlib import Path
 
 from checks.comparers import written
+from checks.comparers.errors import MOST_REDUCTIONS, Machine
 from checks.shared import running
 from checks.shared.arguments import asked
 from checks.shared.grammars import END, ERROR, productive, tokens_of
@@ -228,6 +229,40 @@ def expected(tables, spec, tokens):
     return f", expected {' or '.join(filter(None, [', '.join(names[:-1]), names[-1]]))}"
 
 
+def usual_rule(tables, state, token):
+    """The rule by which a state reduces by default in a parser of bison's, where a token that can't
+    come is no error of `%nonassoc`."""
+    cells = tables.cells[state]
+    counts = Counter(it[1] for it in cells.values() if it[0] == "r")
+    if (state, token) in tables.gotos or cells.get(ERROR, ("",))[0] == "s" or not counts:
+        return None
+    return min(counts, key=lambda rule: (-counts[rule], rule))
+
+
+def late(tables, symbols, ahead):
+    """The line that says where such a parser detects an error, where that is another state."""
+    machine, stack, rules = Machine(tables), (), []
+    for token in symbols:
+        stack = machine.move(stack, token)[1]
+    stack = machine.move(stack, ahead)[1]
+    for _ in range(MOST_REDUCTIONS):
+        state = stack[-1] if stack else 0
+        action = tables.action(state, ahead)
+        rule = action[1] if action and action[0] == "r" else None
+        rule = usual_rule(tables, state, ahead) if action is None else rule
+        if rule is None:
+            break
+        body, left = tables.grammar.rules[rule].body, tables.grammar.rules[rule].left
+        stack = stack[: len(stack) - len(body)]
+        stack = (*stack, tables.gotos[stack[-1] if stack else 0, left])
+        rules.append(rule)
+    if not rules or rule is not None:
+        return ""
+    named = ", ".join(map(str, rules[:20])) + ", .." * (len(rules) > 20)
+    what = f"detects this in state {state}, after reducing by rule{'s' * (len(rules) > 1)} {named}"
+    return f"  a parser with default reductions (lr.default-reduction most) {what}\n"
+
+
 def answer(tables, spec, text):
     """What is said of a text; none where that takes too long to say."""
     tokens, end = spec.cut(text)
@@ -247,7 +282,7 @@ def answer(tables, spec, text):
     line, column = spot(text, at)
     called = spec.called(ahead)
     said = f"text:{line}:{column}: error: unexpected {called}{wanted}\n" + shown_line(text, at)
-    return said if wanted else None
+    return said + late(tables, symbols[:taken], ahead) if wanted else None
 
 
 def run(folder, *words, given=b""):

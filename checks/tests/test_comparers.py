@@ -464,7 +464,8 @@ class Errors(Planted):
         report, look = self.look("reasons")
         pairs = [("A A\n## state 2", "A A A\n## state 2"), ("A A\n", "A C\n")]
         pairs += [("A A\n", "A $end A\n"), ("## state 3", "## state 4")]
-        pairs += [("stack    A", "stack    B"), ("stack    (nothing)", "stack    A")]
+        pairs += [("stack    $1=A", "stack    $1=B"), ("stack    (nothing)", "stack    $1=A")]
+        pairs += [("stack    $1=A", "stack    A"), ("stack    $1=A", "stack    $2=A")]
         pairs += [("expected B C", "expected B"), ("expected $end", "expected $end A")]
         pairs += [("in 4 of 9", "in 5 of 9"), ("always: 5 7 8", "always: 5 7 8 4")]
         pairs += [("always: 5 7 8", "always: 5 7"), ("before them: 4", "before them: 5")]
