@@ -5,8 +5,8 @@
 //! `persona` says who is called, `policy` which states reduce by default, and `help` lists options;
 //! `names` has the names of the files that are written; `reading` reads the grammar file, `against`
 //! looks at variables that words and file set, `messages` reads those for errors, `making` makes
-//! the texts and writes them, `saying` has the words for what is found, `warnings` tells what is to
-//! be told of it, and `ending` says how a run ends.
+//! the texts and writes them, `saying` has the words for what is found, `warnings` says what is to
+//! be said of it, and `ending` says how a run ends.
 #![tactic(auto)]
 
 mod against;
@@ -72,20 +72,7 @@ fn define<'a>(
     Ok(())
 }
 
-/// Does what words ask for with a grammar file; their wishes are taken as if the file had them.
-fn generate(rt: &HostRuntime, given: Given<'_>, file: &File) -> Result<(), Ending> {
-    let mut found = read(rt, file)?;
-    refuse_others(rt, file, &found.parts)?;
-    let options = &mut found.parts.options;
-    if given.pure {
-        options.purity = Purity::Yes;
-    }
-    options.has_names = options.has_names || given.names;
-    define(rt, file.variables.as_slice(), options)?;
-    write_files(rt, given, file, &found)
-}
-
-/// Does what words ask for.
+/// Does what words ask for; their wishes are taken as if the grammar file had them.
 fn obey(rt: &HostRuntime, given: Given<'_>, variables: Vec<u8>) -> Result<(), Ending> {
     let name = given.grammar;
     let bytes = match grammar_bytes(rt, name) {
@@ -99,7 +86,15 @@ fn obey(rt: &HostRuntime, given: Given<'_>, variables: Vec<u8>) -> Result<(), En
         locations: given.locations,
         variables,
     };
-    generate(rt, given, &file)
+    let mut found = read(rt, &file)?;
+    refuse_others(rt, &file, &found.parts)?;
+    let options = &mut found.parts.options;
+    if given.pure {
+        options.purity = Purity::Yes;
+    }
+    options.has_names = options.has_names || given.names;
+    define(rt, file.variables.as_slice(), options)?;
+    write_files(rt, given, &file, &found)
 }
 
 /// Writes a text in place of files.

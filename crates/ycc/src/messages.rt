@@ -9,6 +9,7 @@ use yfiles::steady::Steady;
 use ymessages::inputs::Inputs;
 use ymessages::messages::Messages;
 use ymessages::slots::Slot;
+use yparts::options::Errors;
 use yskeleton::{Speech, Spoken, Style};
 use ytables::Tables;
 
@@ -55,7 +56,7 @@ fn read_speech(rt: &HostRuntime, path: &str, tables: &Tables) -> Result<Speech, 
     }
 }
 
-/// The messages that words ask for, where they do. A parser whose user tells of errors has none.
+/// The messages that words ask for, where they do. A parser whose user speaks of errors has none.
 pub fn speech_of(
     rt: &HostRuntime,
     path: Option<&str>,
@@ -65,7 +66,7 @@ pub fn speech_of(
     let Some(path) = path else {
         return Ok(None);
     };
-    if style.is_custom() {
+    if style.errors() == Errors::Custom {
         let why = ": with %define parse.error custom no message is said";
         tell(rt, &["ycc: ", path, why]);
         return Err(Ending::Refused);

@@ -9,11 +9,11 @@ use yfindings::finding::{Finding, Idle, What};
 use yfindings::kinds::{Telling, name_of};
 
 /// Writes a number of things, and a word for one and for several of them.
-fn put_count(out: &mut Output, count: usize, (one, several): (&str, &str), behind: &str) {
+fn put_count(out: &mut Output, count: usize, (one, several): (&str, &str), after: &str) {
     out.number(count);
     out.put(" ");
     out.put(if count == 1 { one } else { several });
-    out.put(behind);
+    out.put(after);
 }
 
 /// Writes how many conflicts were found, and how many are expected, of a rule or of all.
@@ -52,7 +52,7 @@ fn put_word(out: &mut Output, what: What<'_>) {
             out.put(better.word);
             out.put(better.before);
             out.put_bytes(better.part);
-            out.put(better.behind);
+            out.put(better.after);
             out.put("'");
         }
         What::WantsWord(name) => {

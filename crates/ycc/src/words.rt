@@ -58,7 +58,7 @@ pub struct Given<'a> {
     pub report: Option<&'a str>,
     /// The file of messages for errors, where there are some.
     pub messages: Option<&'a str>,
-    /// Which warnings are told.
+    /// Which warnings are shown.
     pub kinds: Kinds,
 }
 

@@ -1,4 +1,4 @@
-//! Kinds of warnings, by the names that bison has for them, and which of them are told.
+//! Kinds of warnings, by the names that bison has for them, and which of them are shown.
 
 /// A kind of warnings.
 #[derive(Clone, Copy, Debug, Drop, PartialEq, Eq)]
@@ -23,7 +23,7 @@ pub enum Kind {
     Other,
 }
 
-/// When a kind is told.
+/// When a kind is shown.
 #[derive(Clone, Copy, PartialEq, Eq)]
 enum When {
     /// Unless it is turned off.
@@ -70,7 +70,7 @@ enum Word {
     Off,
 }
 
-/// How a warning is told.
+/// How a warning is shown.
 #[derive(Clone, Copy, Debug, Drop, PartialEq, Eq)]
 pub enum Telling {
     /// Not at all.
@@ -81,7 +81,7 @@ pub enum Telling {
     Error,
 }
 
-/// Which warnings are told, and which of these as errors.
+/// Which warnings are shown, and which of these as errors.
 #[derive(Clone, Copy)]
 pub struct Kinds {
     told: [Word; COUNT],
@@ -132,7 +132,7 @@ fn number_of(name: &str) -> Result<usize, &'static str> {
 }
 
 impl Kinds {
-    /// Those that are told where words say nothing.
+    /// Those that are shown where words say nothing.
     pub fn new() -> Kinds {
         Kinds {
             told: [Word::No; COUNT],
@@ -180,7 +180,7 @@ impl Kinds {
         Ok(())
     }
 
-    /// Takes in what is said of the kind of a number: one that is an error is told, one that is
+    /// Takes in what is said of the kind of a number: one that is an error is shown, one that is
     /// none stays what it is.
     fn set(&mut self, number: usize, word: Word, is_error: bool) {
         if is_error {
@@ -206,7 +206,7 @@ impl Kinds {
         false
     }
 
-    /// How a kind is told, where `is_usual` says whether kinds are that no word names.
+    /// How a kind is shown, where `is_usual` says whether kinds are that no word names.
     pub fn telling(&self, kind: Kind, is_usual: bool) -> Telling {
         for (number, (it, _, when)) in KINDS.iter().enumerate() {
             if *it != kind {

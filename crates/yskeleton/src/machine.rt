@@ -227,10 +227,10 @@ yygrow:
         YYFREE (yynewvs);
         YYNOMEM;
       }
-    memcpy (YY_CAST (void *, yynewls), YY_CAST (const void *, yyls), yyused * sizeof *yynewls);
+    YYMEMCPY (YY_CAST (void *, yynewls), YY_CAST (const void *, yyls), yyused * sizeof *yynewls);
 @end
-    memcpy (yynewss, yyss, yyused * sizeof *yynewss);
-    memcpy (YY_CAST (void *, yynewvs), YY_CAST (const void *, yyvs), yyused * sizeof *yynewvs);
+    YYMEMCPY (yynewss, yyss, yyused * sizeof *yynewss);
+    YYMEMCPY (YY_CAST (void *, yynewvs), YY_CAST (const void *, yyvs), yyused * sizeof *yynewvs);
     if (yyss != yyssa)
       {
         YYFREE (yyss);
