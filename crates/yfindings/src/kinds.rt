@@ -1,7 +1,7 @@
 //! Kinds of warnings, by the names that bison has for them, and which of them are shown.
 
 /// A kind of warnings.
-#[derive(Clone, Copy, Debug, Drop, PartialEq, Eq)]
+#[derive(Clone, Copy, Drop, PartialEq, Eq)]
 pub enum Kind {
     /// Conflicts in which the shift is taken.
     ConflictsSr,
@@ -71,7 +71,7 @@ enum Word {
 }
 
 /// How a warning is shown.
-#[derive(Clone, Copy, Debug, Drop, PartialEq, Eq)]
+#[derive(Clone, Copy, Drop, PartialEq, Eq)]
 pub enum Telling {
     /// Not at all.
     Not,

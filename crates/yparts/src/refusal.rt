@@ -1,7 +1,7 @@
 //! Why a parser isn't made for what a file says.
 
 /// What a file asks for that no parser of this kind has.
-#[derive(Clone, Copy, Debug, Drop, PartialEq, Eq)]
+#[derive(Clone, Copy, Drop, PartialEq, Eq)]
 pub enum Refusal {
     /// Another language than C.
     Language,

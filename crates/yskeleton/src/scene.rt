@@ -11,7 +11,7 @@ use yparts::parts::{Action, Named, Parts};
 use ysymbols::{Grammar, Sym};
 
 /// What is wrong with a value or place that an action names.
-#[derive(Clone, Copy, Debug, Drop, PartialEq, Eq)]
+#[derive(Clone, Copy, Drop, PartialEq, Eq)]
 pub enum Misuse {
     /// A symbol of this number is named, and only so many stand before the action.
     OutOfRange(i64, usize),
@@ -26,7 +26,7 @@ pub enum Misuse {
 }
 
 /// A misuse, and how many bytes of the file stand before it.
-#[derive(Clone, Copy, Debug, Drop)]
+#[derive(Clone, Copy, Drop)]
 pub struct Misused {
     /// The misuse.
     pub misuse: Misuse,

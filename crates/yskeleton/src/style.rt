@@ -9,7 +9,7 @@ use yparts::parts::{Deed, Parts, Target};
 use ysymbols::{Grammar, Sym, let_go};
 
 /// Whose order and names a parser has.
-#[derive(Clone, Copy, Debug, PartialEq, Eq)]
+#[derive(Clone, Copy, PartialEq, Eq)]
 pub enum Mode {
     /// byacc's.
     Byacc,
