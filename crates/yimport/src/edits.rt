@@ -18,7 +18,11 @@ pub struct Lack {
 impl Lack {
     /// A trouble, where memory ran out.
     pub fn checked(&self) -> Result<(), Trouble> {
-        if self.is_out { Err(Trouble::Memory) } else { Ok(()) }
+        if self.is_out {
+            Err(Trouble::Memory)
+        } else {
+            Ok(())
+        }
     }
 
     /// Puts an item at the end of a list.

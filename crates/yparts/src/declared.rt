@@ -4,7 +4,9 @@ use crate::bodies::inner;
 use crate::gather::Gather;
 use crate::options::{Errors, Header, Purity};
 use crate::params::param_at;
-use crate::parts::{Block, By, Care, Deed, Defined, Mention, Numbered, Piece, Taker, Target, Whose};
+use crate::parts::{
+    Block, By, Care, Deed, Defined, Mention, Numbered, Piece, Taker, Target, Whose,
+};
 use crate::refusal::Refusal;
 use crate::versions::required;
 use crate::words::{Word, target_of, word_of};

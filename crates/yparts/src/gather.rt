@@ -94,7 +94,11 @@ impl<'a, 'b> Gather<'a, 'b> {
         let Some(symbol) = self.symbol(lexeme)? else {
             return Ok(None);
         };
-        let by = if is_text(lexeme.kind) { By::Text } else { named };
+        let by = if is_text(lexeme.kind) {
+            By::Text
+        } else {
+            named
+        };
         self.parts.mentioned.push(Mention { symbol, by })?;
         if symbol == 0 && lexeme.kind == Kind::Name {
             let mut is_new = true;

@@ -95,7 +95,11 @@ impl<'a> Gather<'a, '_> {
             (Role::Tag, _) => self.tag = name_in(lexeme),
             (role @ (Role::Declared | Role::Levelled | Role::Typed), _) => {
                 if let Some(symbol) = symbol_of(self.grammar, lexeme) {
-                    let by = if role == Role::Declared { By::Token } else { By::Name };
+                    let by = if role == Role::Declared {
+                        By::Token
+                    } else {
+                        By::Name
+                    };
                     self.parts.mentioned.push(Mention { symbol, by })?;
                     if let Some(tag) = self.tag {
                         self.parts.give_tag(symbol, tag);
