@@ -113,8 +113,8 @@ fn read_native<'a>(
     })
 }
 
-/// What is said of an import, but for conflicts and useless rules, which are shown by themselves; of
-/// a file of bison nothing that is a warning, since its parser does what bison's does.
+/// What is said of an import, but for conflicts and useless rules, which are said by themselves;
+/// of a file of bison nothing that is a warning, since its parser does what bison's does.
 fn only_own(alloc: Global, told: Diagnostics, is_bison: bool) -> Result<Diagnostics, Ending> {
     let words = if is_bison {
         ["none", "none", "none"]

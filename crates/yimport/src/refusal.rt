@@ -46,8 +46,8 @@ pub enum Trouble {
 }
 
 impl Refusal {
-    /// What is said of it: what comes before the lexeme, and what after; the last is empty where the
-    /// lexeme isn't said.
+    /// What is said of it: what comes before the lexeme, and what after; the last is empty where
+    /// the lexeme isn't said.
     pub fn words(self) -> (&'static str, &'static str) {
         let before = match self {
             Refusal::UnknownWord => return ("invalid directive: '", "'"),

@@ -163,8 +163,8 @@ impl<'a> Work<'a> {
         self.made_or_trouble(name)
     }
 
-    /// Makes a name for a string, the first after the last one that isn't taken, lists it, and gives
-    /// its number.
+    /// Makes a name for a string, the first after the last one that isn't taken, lists it, and
+    /// gives its number.
     fn make_name(&mut self, key: &[u8], text: &Lexeme) -> usize {
         let first = self.last_made.saturating_add(1);
         let most = first.saturating_add(self.survey.names.len());

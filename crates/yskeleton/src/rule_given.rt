@@ -52,3 +52,9 @@ pub fn given_in<'a>(alloc: Global, comments: &[Comment<'a>]) -> Result<Vec<Given
     }
     Ok(names)
 }
+
+/// The name that is given to an alternative, where one is.
+pub fn given_to<'a>(names: &[Given<'a>], alternative: usize) -> Option<Given<'a>> {
+    let place = names.binary_search_by_key(&alternative, |given| given.alternative);
+    names.get(place.ok()?).copied()
+}

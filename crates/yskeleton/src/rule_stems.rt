@@ -2,7 +2,7 @@
 //! place among the alternatives of that.
 
 use crate::rule_comments::begun_by;
-use crate::rule_given::Given;
+use crate::rule_given::{Given, given_to};
 use std::alloc::Global;
 use yexplain::lines::{Site, is_inner};
 use yexplain::reads::{Made, left_of, name_of};
@@ -60,8 +60,6 @@ pub fn stems_of<'a>(
             starts.push(site.at)?;
         }
     }
-    // the names that weren't given yet
-    let mut names = given;
     // how many of them each symbol had so far
     let mut places = vec![in alloc; 0usize; grammar.symbols()]?;
     let mut stems = Vec::with_capacity(alloc, starts.len())?;
@@ -75,15 +73,8 @@ pub fn stems_of<'a>(
             *count = count.saturating_add(1);
             place = *count;
         }
-        let mut named = None;
-        if let Some(first) = names.first() {
-            if first.alternative == stems.len() {
-                named = Some(*first);
-                names = names.get(1..).unwrap_or(&[]);
-            }
-        }
         stems.push(Stem {
-            given: named,
+            given: given_to(given, stems.len()),
             at: starts.get(stems.len()).copied().unwrap_or(0),
             left: name_of(grammar, left),
             place,
