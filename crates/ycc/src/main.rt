@@ -72,7 +72,20 @@ fn define<'a>(
     Ok(())
 }
 
-/// Does what words ask for; their wishes are taken as if the grammar file had them.
+/// Does what words ask for with a grammar file; their wishes are taken as if the file had them.
+fn generate(rt: &HostRuntime, given: Given<'_>, file: &File) -> Result<(), Ending> {
+    let mut found = read(rt, file)?;
+    refuse_others(rt, file, &found.parts)?;
+    let options = &mut found.parts.options;
+    if given.pure {
+        options.purity = Purity::Yes;
+    }
+    options.has_names = options.has_names || given.names;
+    define(rt, file.variables.as_slice(), options)?;
+    write_files(rt, given, file, &found)
+}
+
+/// Does what words ask for.
 fn obey(rt: &HostRuntime, given: Given<'_>, variables: Vec<u8>) -> Result<(), Ending> {
     let name = given.grammar;
     let bytes = match grammar_bytes(rt, name) {
@@ -86,15 +99,7 @@ fn obey(rt: &HostRuntime, given: Given<'_>, variables: Vec<u8>) -> Result<(), En
         locations: given.locations,
         variables,
     };
-    let mut found = read(rt, &file)?;
-    refuse_others(rt, &file, &found.parts)?;
-    let options = &mut found.parts.options;
-    if given.pure {
-        options.purity = Purity::Yes;
-    }
-    options.has_names = options.has_names || given.names;
-    define(rt, file.variables.as_slice(), options)?;
-    write_files(rt, given, &file, &found)
+    generate(rt, given, &file)
 }
 
 /// Writes a text in place of files.
