@@ -9,6 +9,7 @@ use yfiles::reading::{LONGEST_INPUT, Limited};
 use yfiles::steady::Steady;
 use ymessages::messages::Messages;
 use ymessages::slots::Slot;
+use yparts::options::Errors;
 use yskeleton::{Speech, Spoken, Style};
 use ytables::Tables;
 
@@ -61,7 +62,7 @@ fn read_speech(
     }
 }
 
-/// The messages that words ask for, where they do. A parser whose user tells of errors has none.
+/// The messages that words ask for, where they do. A parser whose user speaks of errors has none.
 pub fn speech_of(
     rt: &HostRuntime,
     given: Given<'_>,
@@ -71,7 +72,7 @@ pub fn speech_of(
     let Some(path) = given.messages else {
         return Ok(None);
     };
-    if style.is_custom() {
+    if style.errors() == Errors::Custom {
         let why = ": with %define parse.error custom no message is said";
         tell(rt, &["ycc: ", path, why]);
         return Err(Ending::Refused);

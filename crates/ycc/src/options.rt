@@ -88,6 +88,8 @@ const THINGS_PERHAPS: Has = Has::Perhaps("THINGS");
 
 const VARIABLE: Has = Has::Value("NAME=VALUE");
 
+const LANGUAGE: Has = Has::Value("LANGUAGE");
+
 /// How many options there are.
 const COUNT: usize = 47;
 
@@ -305,7 +307,7 @@ pub const OPTIONS: [Known; COUNT] = [
         Some('L'),
         "",
         Whose::Bison,
-        Has::Value("LANGUAGE"),
+        LANGUAGE,
         Ask::Language,
         "The language, c",
     ),
@@ -313,7 +315,7 @@ pub const OPTIONS: [Known; COUNT] = [
         None,
         "language",
         Whose::All,
-        Has::Value("LANGUAGE"),
+        LANGUAGE,
         Ask::Language,
         "The language, c",
     ),
@@ -429,19 +431,15 @@ pub const OPTIONS: [Known; COUNT] = [
     (Some('B'), "", Whose::Byacc, NOTHING, NO_WAY_BACK, ""),
 ];
 
-/// Whether an option is there in a call as bison, or in any other call.
-fn is_there(whose: Whose, is_bison: bool) -> bool {
-    match whose {
-        Whose::All => true,
-        Whose::Bison => is_bison,
-        Whose::Byacc => !is_bison,
-    }
-}
-
-/// The option of a letter.
+/// The option of a letter in a call as bison, or in any other call.
 pub fn option_of(letter: char, is_bison: bool) -> Option<Known> {
     for known in &OPTIONS {
-        if known.0 == Some(letter) && is_there(known.2, is_bison) {
+        let is_there = match known.2 {
+            Whose::All => true,
+            Whose::Bison => is_bison,
+            Whose::Byacc => !is_bison,
+        };
+        if known.0 == Some(letter) && is_there {
             return Some(*known);
         }
     }

@@ -173,7 +173,7 @@ impl<'a> Reader<'a> {
         Ok(())
     }
 
-    /// Reads a long name, and a value behind an equals sign.
+    /// Reads a long name, and a value after an equals sign.
     fn read_long(&mut self, word: &'a str) -> Result<(), Wrong<'a>> {
         let (name, value) = match word.split_once('=') {
             Some((name, value)) => (name, Some(value)),

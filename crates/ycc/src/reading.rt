@@ -8,14 +8,14 @@ use yfiles::category::Choice;
 use yfiles::diagnostic::Diagnostics;
 use yfiles::steady::Steady;
 use yfrontend::compared::Counts;
-use yfrontend::import::{Foreign, import_of, open_import};
+use yfrontend::import::{Dialect, Foreign, import_of, open_import};
 use yfrontend::notes::Source;
 use ygrammar::{Grammar, Mapped, Mark, read_mapped};
 use yimport::import::Imported;
 use yimport::symbols::Expected;
 use ylalr::build;
 use yparts::parts::Parts;
-use yparts::refusal::{Refusal, Trouble as Unmade};
+use yparts::refusal::Refusal;
 use yparts::{foreign, native};
 use yskeleton::is_of_bison;
 use ytables::{Tables, resolve};
@@ -49,7 +49,7 @@ fn source_of(file: &File) -> Source<'_> {
     }
 }
 
-/// Says what was told of a grammar file, which is refused with this status.
+/// Says what was found in a grammar file, which is refused with this status.
 fn refused(rt: &HostRuntime, told: &Diagnostics, status: u8) -> Ending {
     match told.put(&mut Steady::new(rt.stderr(), true), "ycc") {
         Ok(()) if status == 1 => Ending::Refused,
@@ -74,7 +74,7 @@ fn map<'a>(rt: &HostRuntime, bytes: &'a [u8]) -> Result<(Grammar, Vec<Mark<'a>>)
     }
 }
 
-/// Takes in what words wish of a file as if it said so, and tells whether it is one of bison.
+/// Takes in what words wish of a file as if it said so, and says whether it is one of bison.
 fn look_at(parts: &mut Parts<'_>, file: &File) {
     let options = &mut parts.options;
     options.locations = options.locations || file.locations;
@@ -113,8 +113,8 @@ fn read_native<'a>(
     })
 }
 
-/// What is said of an import, but for conflicts and useless rules, which are told by themselves; of
-/// a file of bison nothing that is a warning, since its parser does what bison's does.
+/// What is said of an import, but for conflicts and useless rules, which are said by themselves;
+/// of a file of bison nothing that is a warning, since its parser does what bison's does.
 fn only_own(alloc: Global, told: Diagnostics, is_bison: bool) -> Result<Diagnostics, Ending> {
     let words = if is_bison {
         ["none", "none", "none"]
@@ -127,15 +127,16 @@ fn only_own(alloc: Global, told: Diagnostics, is_bison: bool) -> Result<Diagnost
     }
 }
 
-/// Says why a file is refused for what it says of its parser.
-fn unmade(rt: &HostRuntime, file: &File, trouble: Unmade) -> Ending {
-    match trouble {
-        Unmade::Memory => Ending::Memory,
-        Unmade::Refused(refusal, at) => match file.refuse(rt, at, refusal.text()) {
-            Ending::Refused if refusal == Refusal::Later => Ending::Later,
+/// Says why a file is refused for what it says of its parser, where it is.
+fn refuse_all(rt: &HostRuntime, file: &File, parts: &Parts<'_>) -> Result<(), Ending> {
+    let mut ended = Ok(());
+    for (refusal, at) in &parts.refused {
+        ended = Err(match file.refuse(rt, *at, refusal.text()) {
+            Ending::Refused if *refusal == Refusal::Later => Ending::Later,
             ending => ending,
-        },
+        });
     }
+    ended
 }
 
 /// A file that an import made one of `yacc`. Where what it says of its parser is refused, that is
@@ -152,17 +153,12 @@ fn read_imported<'a>(
         Err(status) => return Err(refused(rt, &told, status)),
     };
     let (grammar, imported) = (grammar_of(&foreign.opened.tables), &foreign.imported);
-    let mut parts = foreign::parts_of(alloc, &file.bytes, grammar, imported, file.is_bison);
-    let is_bison = match &mut parts {
-        Ok(parts) => {
-            look_at(parts, file);
-            parts.options.is_bison
-        }
-        Err(_) => true,
-    };
+    let mut parts = foreign::parts_of(alloc, &file.bytes, grammar, imported, file.is_bison)?;
+    look_at(&mut parts, file);
+    let is_bison = parts.options.is_bison || !parts.refused.is_empty();
     let mut errors = Steady::new(rt.stderr(), true);
     only_own(alloc, told, is_bison)?.put(&mut errors, "ycc")?;
-    let parts = parts.map_err(|trouble| unmade(rt, file, trouble))?;
+    refuse_all(rt, file, &parts)?;
     let Foreign {
         opened,
         imported,
@@ -188,7 +184,11 @@ pub fn read<'a>(rt: &HostRuntime, file: &'a File) -> Result<Reading<'a>, Ending>
         Ok(mapped) => read_native(rt, file, mapped),
         Err(trouble) => {
             let mut told = Diagnostics::new(rt.alloc());
-            match import_of(rt.alloc(), &mut told, source_of(file), &trouble)? {
+            let dialect = match file.is_bison {
+                true => Dialect::Bison,
+                false => Dialect::Seen,
+            };
+            match import_of(rt.alloc(), &mut told, source_of(file), &trouble, dialect)? {
                 Ok(imported) => read_imported(rt, file, imported),
                 Err(status) => Err(refused(rt, &told, status)),
             }

@@ -9,11 +9,11 @@ use yfindings::finding::{Finding, Idle, What};
 use yfindings::kinds::{Telling, name_of};
 
 /// Writes a number of things, and a word for one and for several of them.
-fn put_count(out: &mut Output, count: usize, (one, several): (&str, &str), behind: &str) {
+fn put_count(out: &mut Output, count: usize, (one, several): (&str, &str), after: &str) {
     out.number(count);
     out.put(" ");
     out.put(if count == 1 { one } else { several });
-    out.put(behind);
+    out.put(after);
 }
 
 /// Writes how many conflicts were found, and how many are expected, of a rule or of all.
@@ -52,7 +52,7 @@ fn put_word(out: &mut Output, what: What<'_>) {
             out.put(better.word);
             out.put(better.before);
             out.put_bytes(better.part);
-            out.put(better.behind);
+            out.put(better.after);
             out.put("'");
         }
         What::WantsWord(name) => {
@@ -123,13 +123,6 @@ fn put_symbol(out: &mut Output, what: What<'_>) {
             put_count(out, count, words, " useless in grammar");
         }
         What::Nonterminal(name) => out.put_pieces(&[b"nonterminal useless in grammar: ", name]),
-        What::Action(number, text) => {
-            let mut parts = text.windows(2);
-            let has_value = parts.any(|part| matches!(part, b"$$" | b">$"));
-            out.put("nonterminal useless in grammar: ");
-            out.put(if has_value { "@" } else { "$@" });
-            out.number(number);
-        }
         what => put_level(out, what),
     }
 }
@@ -186,6 +179,13 @@ fn put_what(out: &mut Output, what: What<'_>) {
         }
         What::Unset => out.put("unset value: $$"),
         What::Rules(count) => put_count(out, count, ("rule", "rules"), " useless in grammar"),
+        What::Action(number, text) => {
+            let mut parts = text.windows(2);
+            let has_value = parts.any(|part| matches!(part, b"$$" | b">$"));
+            out.put("nonterminal useless in grammar: ");
+            out.put(if has_value { "@" } else { "$@" });
+            out.number(number);
+        }
         What::Rule => out.put("rule useless in grammar"),
         What::Lost => out.put("rule useless in parser due to conflicts"),
         what => put_conflicts(out, what),

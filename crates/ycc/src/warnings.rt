@@ -1,4 +1,4 @@
-//! Warnings and errors of a grammar file that is read: which there are, and which are told.
+//! Warnings and errors of a grammar file that is read: which there are, and which are shown.
 
 use crate::ending::{Ending, File};
 use crate::examples::tell_examples;
@@ -105,7 +105,7 @@ fn find_all<'a>(seen: Seen<'a>, kinds: Wanted) -> Made<Vec<Finding<'a>>> {
     Ok(found)
 }
 
-/// Which kinds are told of a file.
+/// Which kinds are shown of a file.
 #[derive(Clone, Copy)]
 struct Wanted {
     kinds: Kinds,
@@ -113,7 +113,7 @@ struct Wanted {
 }
 
 impl Wanted {
-    /// How something is told: of byacc's files conflicts are, where no word names a kind.
+    /// How something is shown: of byacc's files conflicts are, where no word names a kind.
     fn telling(self, finding: Finding<'_>) -> Telling {
         match finding.kind {
             Some(kind) => self.kinds.telling(kind, self.is_usual(kind)),
@@ -121,12 +121,12 @@ impl Wanted {
         }
     }
 
-    /// Whether a kind is told of a file where no word names it.
+    /// Whether a kind is shown of a file where no word names it.
     fn is_usual(self, kind: Kind) -> bool {
         self.is_bison || matches!(kind, Kind::ConflictsSr | Kind::ConflictsRr)
     }
 
-    /// Whether a kind is told.
+    /// Whether a kind is shown.
     fn tells(self, kind: Kind) -> bool {
         self.kinds.telling(kind, self.is_usual(kind)) != Telling::Not
     }
@@ -142,7 +142,7 @@ fn import_of(rt: &HostRuntime, file: &File) -> Result<Option<Imported>, Ending> 
 }
 
 /// Tells what is found: whether there is an error, and whether all was written. Conflicts of
-/// byacc's files are told as byacc does.
+/// byacc's files are shown as byacc does.
 fn tell(
     rt: &HostRuntime,
     file: &File,
@@ -173,7 +173,7 @@ fn tell(
     Ok((is_refused, errors.finish().is_ok()))
 }
 
-/// Finds what is to be told of a file, and tells it in the order of the file, conflicts at the end:
+/// Finds what is to be shown of a file, and says it in the order of the file, conflicts at the end:
 /// whether all was written. Where there is an error among it, the file is refused.
 pub fn tell_found(
     rt: &HostRuntime,

@@ -64,7 +64,7 @@ pub struct Given<'a> {
     pub messages: Option<&'a str>,
     /// The SPEC that cuts their inputs, where these are texts.
     pub spec: Option<&'a str>,
-    /// Which warnings are told.
+    /// Which warnings are shown.
     pub kinds: Kinds,
 }
 

@@ -1,13 +1,12 @@
 //! The bodies of a file, each with its rule.
 
 use crate::finding::Seen;
-use std::alloc::Global;
 use yexplain::lines::is_inner;
 use yexplain::reads::{Made, left_of};
 use yforeign::directive::{Directive, directive_of, is_symbol};
 use yforeign::groups::{Group, Head};
 use yforeign::lexeme::{Kind, Lexeme};
-use ysymbols::{Grammar, Sym};
+use ysymbols::Sym;
 
 /// A body.
 #[derive(Clone, Copy)]
@@ -20,7 +19,7 @@ pub struct Body<'a> {
     pub left: Sym,
     /// Where its name stands.
     pub head: usize,
-    /// Where it begins: at what stands first in it, or else behind the sign before it.
+    /// Where it begins: at what stands first in it, or else after the sign before it.
     pub at: usize,
     /// What stands in it.
     pub lexemes: &'a [Lexeme],
@@ -50,9 +49,9 @@ pub struct Cut<'a> {
     pub says_empty: bool,
 }
 
-/// The lexemes behind the sign before a body, up to the semicolon behind it, and where that sign
+/// The lexemes after the sign before a body, up to the semicolon after it, and where that sign
 /// ends.
-fn behind_sign<'a>(group: &Group<'a>) -> (&'a [Lexeme], usize) {
+fn after_sign<'a>(group: &Group<'a>) -> (&'a [Lexeme], usize) {
     let (mut rest, mut end) = (group.lexemes, 0);
     for (number, lexeme) in group.lexemes.iter().enumerate() {
         if matches!(lexeme.kind, Kind::Colon | Kind::Bar) {
@@ -66,21 +65,15 @@ fn behind_sign<'a>(group: &Group<'a>) -> (&'a [Lexeme], usize) {
     (rest.get(..length).unwrap_or(rest), end)
 }
 
-/// The rules but those of actions within bodies.
-fn outer_rules(alloc: Global, grammar: &Grammar) -> Made<Vec<usize>> {
-    let mut rules = Vec::new(alloc);
+/// The bodies of a file, in its order: they have the rules but those of actions within bodies.
+pub fn bodies_of<'a>(seen: Seen<'a>) -> Made<Vec<Body<'a>>> {
+    let grammar = seen.grammar();
+    let mut rules = Vec::new(seen.alloc);
     for rule in 1..grammar.rules() {
         if !is_inner(grammar, rule) {
             rules.push(rule)?;
         }
     }
-    Ok(rules)
-}
-
-/// The bodies of a file, in its order: they have the rules but those of actions within bodies.
-pub fn bodies_of<'a>(seen: Seen<'a>) -> Made<Vec<Body<'a>>> {
-    let grammar = seen.grammar();
-    let rules = outer_rules(seen.alloc, grammar)?;
     let mut bodies = Vec::new(seen.alloc);
     let mut head = 0;
     for group in seen.groups {
@@ -94,7 +87,7 @@ pub fn bodies_of<'a>(seen: Seen<'a>) -> Made<Vec<Body<'a>>> {
         if let (Head::Left, Some(name)) = (group.head, group.lexemes.first()) {
             head = name.span.from;
         }
-        let (lexemes, end) = behind_sign(group);
+        let (lexemes, end) = after_sign(group);
         let at = lexemes.first().map_or(end, |first| first.span.from);
         let left = left_of(grammar, rule).unwrap_or(0);
         bodies.push(Body {

@@ -11,7 +11,7 @@ use yforeign::groups::{Group, Head};
 use yforeign::lexeme::{Kind as Form, Lexeme};
 use yforeign::numbers::is_hexadecimal;
 use yforeign::survey::{inside, is_macro, is_text};
-use yimport::barren::{Barren, LeftOut};
+use yimport::left_out::{Barren, LeftOut};
 use ylalr::{END, ERROR};
 use yparts::parts::{Deed, Whose};
 use ysymbols::Sym;
@@ -81,7 +81,12 @@ impl<'a> Declared<'a> {
     /// A name that is no symbol of the grammar, so that it has no rules.
     fn find_stranger(&mut self, lexeme: &Lexeme, directive: Directive) -> Made<()> {
         let (text, at) = (self.seen.text(lexeme), lexeme.span.from);
-        if is_among(&self.met, text) || self.seen.is_left_out(text) {
+        let mut is_known = is_among(&self.met, text);
+        for LeftOut { what, span } in &self.seen.imported.left_out {
+            let is_same = self.seen.source.get(span.from..span.to) == Some(text);
+            is_known = is_known || (is_same && matches!(what, Barren::Nonterminal));
+        }
+        if is_known {
             return Ok(());
         }
         intern(self.seen.alloc, &mut self.met, text)?;
@@ -164,7 +169,7 @@ impl<'a> Declared<'a> {
         self.find_again(symbol, lexeme, directive, has_tag)
     }
 
-    /// Finds what is to be said of a string behind a token.
+    /// Finds what is to be said of a string after a token.
     fn find_string(&mut self, token: &Lexeme, lexeme: &Lexeme) -> Made<()> {
         let (seen, at) = (self.seen, lexeme.span.from);
         let text = inside(seen.source, lexeme);
@@ -295,17 +300,6 @@ impl<'a> Declared<'a> {
 }
 
 impl Seen<'_> {
-    /// Whether a nonterminal was left out with its rules.
-    fn is_left_out(self, name: &[u8]) -> bool {
-        for LeftOut { what, span } in &self.imported.left_out {
-            let text = self.source.get(span.from..span.to);
-            if matches!(what, Barren::Nonterminal) && text == Some(name) {
-                return true;
-            }
-        }
-        false
-    }
-
     /// Whether a symbol has a tag.
     fn has_tag(self, tag: &[u8]) -> bool {
         for looks in &self.parts.looks {

@@ -71,7 +71,7 @@ fn plain<'a>(word: &'static str) -> Better<'a> {
         word,
         before: "",
         part: b"",
-        behind: "",
+        after: "",
     }
 }
 
@@ -81,7 +81,7 @@ fn between<'a>(seen: Seen<'a>, first: &Lexeme, last: &Lexeme) -> &'a [u8] {
     text.unwrap_or(b"")
 }
 
-/// The better word for a directive with what stands behind it, and the text that it replaces.
+/// The better word for a directive with what stands after it, and the text that it replaces.
 fn better_word<'a>(seen: Seen<'a>, lexemes: &[Lexeme]) -> Option<(&'a [u8], Better<'a>)> {
     let (word, rest) = lexemes.split_first()?;
     let text = seen.text(word);
@@ -97,7 +97,7 @@ fn better_word<'a>(seen: Seen<'a>, lexemes: &[Lexeme]) -> Option<(&'a [u8], Bett
             word: "%define api.prefix",
             before: " {",
             part: inside(seen.source, string),
-            behind: "}",
+            after: "}",
         };
         return Some((between(seen, word, string), better));
     }
@@ -173,7 +173,7 @@ fn old_define<'a>(
             } else {
                 seen.text(value)
             },
-            behind: "",
+            after: "",
         },
     };
     warning(Kind::Deprecated, word.span.from, What::Old(old, better))

@@ -29,7 +29,7 @@ fn counts_of(seen: Seen<'_>) -> Made<Vec<usize>> {
     Ok(counts)
 }
 
-/// The number behind a directive of a body, and where it stands.
+/// The number after a directive of a body, and where it stands.
 fn expected_in(seen: Seen<'_>, lexemes: &[Lexeme], wanted: Directive) -> Option<(usize, usize)> {
     let mut is_meant = false;
     let mut found = None;

@@ -10,7 +10,7 @@ use yparts::parts::Parts;
 use ysymbols::{Grammar, Sym};
 use ytables::Tables;
 
-/// The word that should stand in place of another one, with a part of the file behind it.
+/// The word that should stand in place of another one, with a part of the file after it.
 #[derive(Clone, Copy)]
 pub struct Better<'a> {
     /// The word.
@@ -19,8 +19,8 @@ pub struct Better<'a> {
     pub before: &'static str,
     /// The part.
     pub part: &'a [u8],
-    /// What stands behind it.
-    pub behind: &'static str,
+    /// What stands after it.
+    pub after: &'static str,
 }
 
 /// Which part of a token's precedence settles nothing.

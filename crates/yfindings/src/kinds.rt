@@ -1,7 +1,7 @@
-//! Kinds of warnings, by the names that bison has for them, and which of them are told.
+//! Kinds of warnings, by the names that bison has for them, and which of them are shown.
 
 /// A kind of warnings.
-#[derive(Clone, Copy, Debug, Drop, PartialEq, Eq)]
+#[derive(Clone, Copy, Drop, PartialEq, Eq)]
 pub enum Kind {
     /// Conflicts in which the shift is taken.
     ConflictsSr,
@@ -25,7 +25,7 @@ pub enum Kind {
     Other,
 }
 
-/// When a kind is told.
+/// When a kind is shown.
 #[derive(Clone, Copy, PartialEq, Eq)]
 enum When {
     /// Unless it is turned off.
@@ -74,8 +74,8 @@ enum Word {
     Off,
 }
 
-/// How a warning is told.
-#[derive(Clone, Copy, Debug, Drop, PartialEq, Eq)]
+/// How a warning is shown.
+#[derive(Clone, Copy, Drop, PartialEq, Eq)]
 pub enum Telling {
     /// Not at all.
     Not,
@@ -85,7 +85,7 @@ pub enum Telling {
     Error,
 }
 
-/// Which warnings are told, and which of these as errors.
+/// Which warnings are shown, and which of these as errors.
 #[derive(Clone, Copy)]
 pub struct Kinds {
     told: [Word; COUNT],
@@ -136,7 +136,7 @@ fn number_of(name: &str) -> Result<usize, &'static str> {
 }
 
 impl Kinds {
-    /// Those that are told where words say nothing.
+    /// Those that are shown where words say nothing.
     pub fn new() -> Kinds {
         Kinds {
             told: [Word::No; COUNT],
@@ -183,7 +183,7 @@ impl Kinds {
         Ok(())
     }
 
-    /// Takes in what is said of the kind of a number: one that is an error is told, one that is
+    /// Takes in what is said of the kind of a number: one that is an error is shown, one that is
     /// none stays what it is.
     fn set(&mut self, number: usize, word: Word, is_error: bool) {
         if is_error {
@@ -212,7 +212,7 @@ impl Kinds {
         false
     }
 
-    /// How a kind is told, where `is_usual` says whether kinds are that no word names.
+    /// How a kind is shown, where `is_usual` says whether kinds are that no word names.
     pub fn telling(&self, kind: Kind, is_usual: bool) -> Telling {
         for (number, (it, _, when)) in KINDS.iter().enumerate() {
             if *it != kind {

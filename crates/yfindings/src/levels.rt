@@ -50,17 +50,6 @@ fn givers_of(seen: Seen<'_>, bodies: &[Body<'_>]) -> Made<Vec<Option<Sym>>> {
 }
 
 impl Settled {
-    /// Notes two tokens that were compared.
-    fn note(&mut self, token: Sym, giver: Sym, is_level: bool) {
-        if is_level {
-            set(&mut self.by_level, token, true);
-            set(&mut self.by_level, giver, true);
-        } else {
-            set(&mut self.by_direction, token, true);
-            set(&mut self.by_direction, giver, true);
-        }
-    }
-
     /// Compares the rules of a cell with its shift.
     fn settle(&mut self, seen: Seen<'_>, state: usize, token: Sym) {
         let grammar = seen.grammar();
@@ -80,7 +69,13 @@ impl Settled {
             if !is_level && seen.has_no_direction(own.level) {
                 continue;
             }
-            self.note(token, giver, is_level);
+            if is_level {
+                set(&mut self.by_level, token, true);
+                set(&mut self.by_level, giver, true);
+            } else {
+                set(&mut self.by_direction, token, true);
+                set(&mut self.by_direction, giver, true);
+            }
             let is_kept = if is_level {
                 level.level < own.level
             } else {
@@ -115,7 +110,7 @@ fn idle_of(seen: Seen<'_>, settled: &Settled, token: Sym) -> Option<Idle> {
     }
 }
 
-/// Finds the tokens of a declaration whose precedence settles nothing, and that weren't told yet.
+/// Finds the tokens of a declaration whose precedence settles nothing, and that weren't shown yet.
 fn find_idle<'a>(
     seen: Seen<'a>,
     settled: &Settled,

@@ -1,6 +1,6 @@
 //! What deserves a warning in a grammar file of byacc or bison, as values.
 //!
-//! `kinds` has the kinds of warnings, by bison's names, and which of them are told; `finding` what
+//! `kinds` has the kinds of warnings, by bison's names, and which of them are shown; `finding` what
 //! can be found. `bodies` cuts the bodies of a file. `declared` seeks in declarations, and
 //! `deprecated` among their words; `values` and `expects` seek in bodies; `walk` has the states
 //! that bison comes to, over which `useless` and `levels` seek.

@@ -9,7 +9,7 @@ use yexplain::lines::is_inner;
 use yexplain::reads::{Made, body_of, left_of, set};
 use yforeign::lexeme::{Kind as Form, Lexeme, Span};
 use yforeign::numbers::number_of;
-use yimport::barren::{Barren, LeftOut};
+use yimport::left_out::{Barren, LeftOut};
 use ysymbols::{Grammar, Sym};
 
 /// Which symbols and rules sentences need.
@@ -135,7 +135,7 @@ fn useless_at<'a>(seen: Seen<'a>, symbol: Sym, at: usize) -> What<'a> {
         let is_before = matches!(what, Barren::Action(_)) && span.from < at;
         number = number.saturating_add(usize::from(is_before));
     }
-    let mut text: &[u8] = b"";
+    let mut text = seen.source.get(..0).unwrap_or(&[]);
     for action in &seen.parts.actions {
         if action.piece.at == at {
             text = action.piece.text;

@@ -149,14 +149,6 @@ impl Directive {
         )
     }
 
-    /// Whether it can stand in a body.
-    pub fn is_in_body(self) -> bool {
-        matches!(
-            self,
-            Directive::Prec | Directive::Empty | Directive::Expect | Directive::ExpectReduce
-        )
-    }
-
     /// Whether a lexeme of this kind may stand after it, where it is taken out.
     pub fn takes(self, kind: Kind) -> bool {
         match self {

@@ -49,7 +49,8 @@ fn head_of(source: &[u8], lexeme: &Lexeme, after: &[Lexeme], in_rules: bool) -> 
         Kind::Bar if in_rules => Some(Head::Bar),
         Kind::Name if in_rules && is_left(after) => Some(Head::Left),
         Kind::Word => match directive_of(lexeme.text(source)) {
-            directive if in_rules && directive.is_in_body() => None,
+            Directive::Prec | Directive::Empty | Directive::Expect | Directive::ExpectReduce
+                if in_rules => None,
             directive => Some(Head::Word(directive)),
         },
         _ => None,

@@ -193,16 +193,8 @@ impl Survey {
         token.map_or(false, |token| is_among(&self.ends, token.text(source)))
     }
 
-    /// The name of the start symbol.
-    pub fn start_name<'a>(&self, source: &'a [u8]) -> &'a [u8] {
-        match self.start.or(self.first) {
-            Some(lexeme) => lexeme.text(source),
-            None => &[],
-        }
-    }
-
-    /// Whether the start symbol stands in a body.
-    pub fn uses_start(&self, source: &[u8]) -> bool {
-        is_among(&self.used, self.start_name(source))
+    /// The start symbol: what `%start` names, or the first left side.
+    pub fn start_symbol(&self) -> Option<Lexeme> {
+        self.start.or(self.first)
     }
 }

@@ -20,8 +20,8 @@ use yfiles::writing::put_output;
 use yforeign::directive::is_imported;
 use ygrammar::{GrammarFault, LONGEST_FILE, PlacedFault};
 use yimport::import::{Imported, import};
-use yimport::refusal::{self, Refusal, Refused};
-use yimport::symbols::{Ended, Expected};
+use yimport::refusal::{self, Refused};
+use yimport::symbols::Ended;
 use ysymbols::Grammar;
 
 /// What is said of a file that is too long.
@@ -184,12 +184,12 @@ fn add_refused(
         let (word, dots) = shown(bytes, at, refused.span.to);
         one.subject.extend_from_slice(word)?;
         one.subject.extend_from_slice(dots.as_bytes())?;
-        if let Refusal::NoSentence = refused.refusal {
-            one.say("start symbol ")?;
+        let (before, after) = refused.refusal.words();
+        one.say(before)?;
+        if !after.is_empty() {
             one.message.write_all(word)?;
-            one.say(" ")?;
+            one.say(after)?;
         }
-        one.say(refused.refusal.text())?;
         told.add(one)?;
     }
     Ok(())
@@ -280,27 +280,6 @@ pub struct Foreign {
     pub counts: Counts,
 }
 
-/// Whether a number that is expected isn't the one that was found.
-fn differs(expected: Option<Expected>, found: usize) -> bool {
-    expected.map_or(false, |expected| expected.number != found)
-}
-
-impl Foreign {
-    /// Whether the file expects other numbers of conflicts than it has. Where it is one of bison,
-    /// `%expect-rr` is for another kind of parser, and `%expect` expects no reduce/reduce
-    /// conflicts.
-    pub fn surprises(&self, is_bison: bool) -> bool {
-        let shifts = self.imported.shift_reduce;
-        let counts = self.counts;
-        let others = if is_bison {
-            shifts.is_some() && counts.reduce_reduce != 0
-        } else {
-            differs(self.imported.reduce_reduce, counts.reduce_reduce)
-        };
-        others || differs(shifts, counts.shift_reduce)
-    }
-}
-
 /// Opens the grammar that the bytes of a file of bison become, by an import that was made. Only
 /// changes by which the language or a conflict can change are told. Where the file is refused, that
 /// is said, and the exit status is the answer.
@@ -381,19 +360,21 @@ fn first_of(refused: &[Refused]) -> usize {
 }
 
 /// What a file becomes that `yacc` refuses for this reason, where it has what only bison or byacc
-/// takes; else says why it isn't opened, and gives the exit status.
+/// takes; else says why it isn't opened, and gives the exit status. Of a file of bison that is what
+/// the import says.
 pub fn import_of(
     alloc: Global,
     told: &mut Diagnostics,
     source: Source<'_>,
     trouble: &Trouble<'_>,
+    dialect: Dialect,
 ) -> io::Result<Result<Imported, u8>> {
     let Source { path, bytes } = source;
     if bytes.len() <= LONGEST_FILE && !matches!(trouble, Trouble::Memory) {
         match import(alloc, bytes) {
             Ok(imported) if !imported.notes.is_empty() => return Ok(Ok(imported)),
             Err(refusal::Trouble::Refused(refused))
-                if is_foreign(bytes, trouble, first_of(&refused)) => {
+                if dialect == Dialect::Bison || is_foreign(bytes, trouble, first_of(&refused)) => {
                 add_refused(alloc, told, source, &refused)?;
                 return Ok(Err(1));
             }
@@ -441,7 +422,7 @@ pub fn open_grammar(
         match open_bytes(alloc, source.bytes, None) {
             Ok(opened) => return Ok(Ok(Read::Plain(opened))),
             Err(trouble) if dialect == Dialect::Seen && !is_barren(&trouble) => {
-                let imported = import_of(alloc, told, source, &trouble)?;
+                let imported = import_of(alloc, told, source, &trouble, dialect)?;
                 if imported.is_ok() {
                     add_seen(alloc, told, source, &trouble)?;
                 }

@@ -124,7 +124,7 @@ pub fn applied(alloc: Global, changes: &mut Edits<'_>) -> Result<Changed, Troubl
         pieces: Vec::new(alloc),
         at: 0,
         passing: false,
-        trouble: Lack::none(),
+        trouble: Lack { is_out: false },
     };
     for edit in &changes.edits {
         page.make(edit, &changes.texts);

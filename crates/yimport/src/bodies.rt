@@ -5,6 +5,7 @@ use crate::refusal::Refusal;
 use crate::symbols::{Ended, Work};
 use yforeign::directive::{Directive, directive_of, is_symbol};
 use yforeign::lexeme::{Kind, Lexeme};
+use ysymbols::names::is_among;
 
 /// How many symbols and how many actions stand in a part of a body. What `%prec` names isn't one.
 fn counts(lexemes: &[Lexeme]) -> (usize, usize) {
@@ -58,10 +59,13 @@ impl Work<'_> {
     fn take_end(&mut self, around: Around<'_>) {
         let (lexeme, source) = (around.lexeme, self.source);
         let (symbols, actions) = counts(around.after);
-        let start = self.survey.start_name(source);
+        let start = match self.survey.start_symbol() {
+            Some(start) => start.text(source),
+            None => &[],
+        };
         if symbols > 0 || self.left.map_or(true, |left| left.text(source) != start) {
             self.edits.refuse(Refusal::EndElsewhere, lexeme);
-        } else if self.survey.uses_start(source) {
+        } else if is_among(&self.survey.used, start) {
             self.edits.refuse(Refusal::EndAndStart, lexeme);
         } else if around.before == Some(Kind::Braced) && actions == 0 {
             self.edits.refuse(Refusal::EndAfterAction, lexeme);

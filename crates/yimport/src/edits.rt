@@ -12,15 +12,10 @@ use yforeign::lexeme::{Lexeme, Span};
 #[derive(Clone, Copy, Drop)]
 pub struct Lack {
     /// Whether it did.
-    is_out: bool,
+    pub is_out: bool,
 }
 
 impl Lack {
-    /// As long as it didn't.
-    pub fn none() -> Lack {
-        Lack { is_out: false }
-    }
-
     /// A trouble, where memory ran out.
     pub fn checked(&self) -> Result<(), Trouble> {
         if self.is_out {
@@ -30,22 +25,17 @@ impl Lack {
         }
     }
 
-    /// Remembers that it ran out.
-    pub fn run_out(&mut self) {
-        self.is_out = true;
-    }
-
     /// Puts an item at the end of a list.
     pub fn push<T: Drop>(&mut self, list: &mut Vec<T>, item: T) {
         if list.push(item).is_err() {
-            self.run_out();
+            self.is_out = true;
         }
     }
 
     /// Writes a text after another one.
     pub fn append(&mut self, text: &mut Vec<u8>, more: &[u8]) {
         if text.extend_from_slice(more).is_err() {
-            self.run_out();
+            self.is_out = true;
         }
     }
 
@@ -106,7 +96,7 @@ impl<'a> Edits<'a> {
             moved: Vec::new(alloc),
             made: Vec::new(alloc),
             moving: false,
-            trouble: Lack::none(),
+            trouble: Lack { is_out: false },
             refused: Vec::new(alloc),
             stumbles: false,
         }

@@ -1,7 +1,7 @@
 //! A file imported.
 
 use crate::applied::{Changed, applied};
-use crate::barren::LeftOut;
+use crate::left_out::LeftOut;
 use crate::note::Note;
 use crate::pieces::Pieces;
 use crate::refusal::{Refusal, Refused, Trouble};

@@ -2,11 +2,12 @@
 #![tactic(auto)]
 
 mod applied;
-pub mod barren;
+mod barren;
 mod bodies;
 mod declarations;
 mod edits;
 pub mod import;
+pub mod left_out;
 mod listings;
 mod loners;
 pub mod note;

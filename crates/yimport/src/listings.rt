@@ -175,8 +175,13 @@ impl Work<'_> {
         (any, stands)
     }
 
-    /// Keeps the word of a list, where something but the end stands in it, and notes its level.
-    fn keep_list_word(&mut self, word: &Lexeme, directive: Directive, stands: bool) {
+    /// Takes in a list of tokens, and notes its level. Its word stays where something but the end
+    /// stands in it.
+    pub fn import_list(&mut self, directive: Directive, word: &Lexeme, rest: &[Lexeme]) {
+        let (any, stands) = self.listed(directive, rest);
+        if !any {
+            return self.edits.refuse(Refusal::NothingListed, word);
+        }
         if directive.is_level() {
             let span = (directive == Directive::Precedence).then_some(word.span);
             self.edits.trouble.push(&mut self.levels, span);
@@ -186,15 +191,6 @@ impl Work<'_> {
         } else {
             self.edits.remove(word);
         }
-    }
-
-    /// Takes in a list of tokens.
-    pub fn import_list(&mut self, directive: Directive, word: &Lexeme, rest: &[Lexeme]) {
-        let (any, stands) = self.listed(directive, rest);
-        if !any {
-            return self.edits.refuse(Refusal::NothingListed, word);
-        }
-        self.keep_list_word(word, directive, stands);
         let mut place = Place {
             directive,
             token: None,

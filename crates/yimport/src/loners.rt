@@ -37,7 +37,7 @@ impl Work<'_> {
                 match other_name(self.alloc, self.source, lexeme) {
                     Ok(Some((name, _))) => self.edits.list_made(&name),
                     Ok(None) => self.edits.list_made(lexeme.text(self.source)),
-                    Err(_) => self.edits.trouble.run_out(),
+                    Err(_) => self.edits.trouble.is_out = true,
                 }
                 self.edits
                     .note(lexeme.span, How::ToMark, Reason::TypedToken);

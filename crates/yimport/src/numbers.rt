@@ -52,7 +52,7 @@ impl Work<'_> {
         )
         .is_err()
         {
-            self.edits.trouble.run_out();
+            self.edits.trouble.is_out = true;
         }
     }
 }

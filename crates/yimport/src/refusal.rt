@@ -3,7 +3,7 @@
 use std::alloc::{AllocError, AllocFailed};
 use yforeign::lexeme::{Flaw, Span};
 
-/// What a file has that can't be imported: what each says is its `text`.
+/// What a file has that can't be imported: what each says are its `words`.
 #[derive(Clone, Copy, Drop)]
 pub enum Refusal {
     Flaw(Flaw),
@@ -46,9 +46,13 @@ pub enum Trouble {
 }
 
 impl Refusal {
-    /// What is said of it.
-    pub fn text(self) -> &'static str {
-        match self {
+    /// What is said of it: what comes before the lexeme, and what after; the last is empty where
+    /// the lexeme isn't said.
+    pub fn words(self) -> (&'static str, &'static str) {
+        let before = match self {
+            Refusal::UnknownWord => return ("invalid directive: '", "'"),
+            Refusal::NumberTooLarge => return ("integer out of range: '", "'"),
+            Refusal::NoSentence => return ("start symbol ", " does not derive any sentence"),
             Refusal::Flaw(Flaw::Unfinished) => "what begins here has no end",
             Refusal::Flaw(Flaw::BadLiteral) => {
                 "no literal of one character from 1 to 255, and no string, begins here"
@@ -56,7 +60,6 @@ impl Refusal {
             Refusal::Flaw(Flaw::BadNumber) => "no number begins here",
             Refusal::Flaw(Flaw::BadReference) => "no name stands in these brackets",
             Refusal::Flaw(Flaw::Foreign) => "neither bison nor byacc has a lexeme that begins here",
-            Refusal::UnknownWord => "unknown directive",
             Refusal::OtherParser => "it asks for another kind of parser",
             Refusal::NoDefault => "rules of yacc have a precedence without %prec",
             Refusal::SeveralStarts => "yacc has one start symbol",
@@ -77,12 +80,11 @@ impl Refusal {
             }
             Refusal::SecondPrec => "a rule has one %prec",
             Refusal::NotEmpty => "this body isn't empty",
-            Refusal::NumberTooLarge => "numbers of tokens end at 2,147,483,646",
             Refusal::NumberTaken => "this token has another number, or another token has this one",
             Refusal::TokenNonterminal => "it is listed as a token too",
-            Refusal::NoSentence => "does not derive any sentence",
             Refusal::NameTaken => "yacc's names have no dashes, and the name without them is taken",
-        }
+        };
+        (before, "")
     }
 }
 

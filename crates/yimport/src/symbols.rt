@@ -1,8 +1,8 @@
 //! Symbols as `yacc` spells them.
 
 use crate::applied::Changed;
-use crate::barren::LeftOut;
 use crate::edits::Edits;
+use crate::left_out::LeftOut;
 use crate::note::Reason;
 use crate::refusal::{Refusal, Trouble};
 use crate::spelling::{Made, made_name, other_name, unbroken};
@@ -124,7 +124,7 @@ impl<'a> Work<'a> {
         match made {
             Ok(text) => text,
             Err(_) => {
-                self.edits.trouble.run_out();
+                self.edits.trouble.is_out = true;
                 Vec::new(self.alloc)
             }
         }
@@ -137,7 +137,7 @@ impl<'a> Work<'a> {
         let (name, reason) = match other_name(self.alloc, self.source, lexeme) {
             Ok(other) => other?,
             Err(_) => {
-                self.edits.trouble.run_out();
+                self.edits.trouble.is_out = true;
                 return None;
             }
         };
@@ -151,7 +151,7 @@ impl<'a> Work<'a> {
                 self.edits.refuse(Refusal::NameTaken, lexeme);
             }
             if self.renamed.insert(name, *lexeme).is_err() {
-                self.edits.trouble.run_out();
+                self.edits.trouble.is_out = true;
             }
         }
         Some(reason)
@@ -163,22 +163,19 @@ impl<'a> Work<'a> {
         self.made_or_trouble(name)
     }
 
-    /// The first number after the last one that makes a name which isn't taken.
-    fn free_number(&mut self) -> usize {
+    /// Makes a name for a string, the first after the last one that isn't taken, lists it, and
+    /// gives its number.
+    fn make_name(&mut self, key: &[u8], text: &Lexeme) -> usize {
         let first = self.last_made.saturating_add(1);
         let most = first.saturating_add(self.survey.names.len());
-        for number in first..most {
-            let name = self.made_name(number);
+        let mut number = most;
+        for next in first..most {
+            let name = self.made_name(next);
             if !is_among(&self.survey.names, &name) {
-                return number;
+                number = next;
+                break;
             }
         }
-        most
-    }
-
-    /// Makes a name for a string, lists it, and gives its number.
-    fn make_name(&mut self, key: &[u8], text: &Lexeme) -> usize {
-        let number = self.free_number();
         self.last_made = number;
         let name = self.made_name(number);
         self.edits.list_made(&name);
@@ -186,7 +183,7 @@ impl<'a> Work<'a> {
         let key = self.made_or_trouble(key);
         let text = *text;
         if self.made.insert(key, Made { number, text }).is_err() {
-            self.edits.trouble.run_out();
+            self.edits.trouble.is_out = true;
         }
         number
     }

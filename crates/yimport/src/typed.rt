@@ -20,19 +20,6 @@ impl Work<'_> {
         }
     }
 
-    /// Takes in one lexeme of a list that stays.
-    fn import_typed(&mut self, lexeme: &Lexeme, at: usize) {
-        match lexeme.kind {
-            Kind::Tag => self.keep_tag(lexeme, at == 0),
-            Kind::Comma | Kind::Semicolon => self.edits.take_out(lexeme, Reason::Separator),
-            Kind::LineMark => self.edits.take_out(lexeme, Reason::LineMark),
-            _ => match self.reason_against(lexeme) {
-                Some(reason) => self.edits.take_out(lexeme, reason),
-                None => self.keep_symbol(lexeme),
-            },
-        }
-    }
-
     /// Takes out a whole declaration, with a word for all of it.
     pub fn take_all(&mut self, word: &Lexeme, rest: &[Lexeme], reason: Reason) {
         self.edits.take_out(word, reason);
@@ -76,7 +63,15 @@ impl Work<'_> {
         }
         self.keep_word(word, directive);
         for (at, lexeme) in rest.iter().enumerate() {
-            self.import_typed(lexeme, at);
+            match lexeme.kind {
+                Kind::Tag => self.keep_tag(lexeme, at == 0),
+                Kind::Comma | Kind::Semicolon => self.edits.take_out(lexeme, Reason::Separator),
+                Kind::LineMark => self.edits.take_out(lexeme, Reason::LineMark),
+                _ => match self.reason_against(lexeme) {
+                    Some(reason) => self.edits.take_out(lexeme, reason),
+                    None => self.keep_symbol(lexeme),
+                },
+            }
         }
     }
 }

@@ -14,7 +14,7 @@ pub fn inner(text: &[u8]) -> &[u8] {
 
 impl Gather<'_, '_> {
     /// Takes in a body, whose left side is the last one.
-    fn take_body(&mut self, lexemes: &[Lexeme]) -> Made<()> {
+    pub fn take_body(&mut self, lexemes: &[Lexeme]) -> Made<()> {
         let (source, names) = (self.source, self.parts.names.len());
         self.parts.bodies.push(names)?;
         // how many symbols and actions came, and the tag of the action that comes
@@ -67,10 +67,5 @@ impl Gather<'_, '_> {
             }
         }
         self.take_body(rest)
-    }
-
-    /// Takes in a rule that has the left side of the one before it.
-    pub fn take_bar(&mut self, lexemes: &[Lexeme]) -> Made<()> {
-        self.take_body(lexemes.get(1..).unwrap_or(&[]))
     }
 }

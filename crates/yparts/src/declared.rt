@@ -7,7 +7,7 @@ use crate::params::param_at;
 use crate::parts::{
     Block, By, Care, Deed, Defined, Mention, Numbered, Piece, Taker, Target, Whose,
 };
-use crate::refusal::{Refusal, Trouble};
+use crate::refusal::Refusal;
 use crate::versions::required;
 use crate::words::{Word, target_of, word_of};
 use yexplain::reads::Made;
@@ -72,24 +72,23 @@ impl<'a> Gather<'a, '_> {
 
     /// Takes in code with the word for its place, or without. `imports` has a place in Java alone,
     /// so it is left out, as byacc does; bison refuses it in C.
-    fn take_code(&mut self, rest: &[Lexeme]) -> Result<(), Trouble> {
+    fn take_code(&mut self, rest: &[Lexeme]) -> Made<()> {
         let Some(piece) = self.first(rest, Kind::Braced) else {
             return Ok(());
         };
         let target = match self.first(rest, Kind::Name) {
             Some(word) if is_word(word.text, "imports") => return Ok(()),
-            Some(word) => {
-                let unknown = Trouble::Refused(Refusal::Qualifier, word.at);
-                target_of(word.text).ok_or(unknown)?
-            }
+            Some(word) => match target_of(word.text) {
+                Some(target) => target,
+                None => return self.refuse(Refusal::Qualifier, word.at),
+            },
             None => Target::Code,
         };
-        self.take_text(target, between(piece, 1))?;
-        Ok(())
+        self.take_text(target, between(piece, 1))
     }
 
     /// Takes in all parameters of a directive, of which some stand between braces each time.
-    fn take_params(&mut self, taker: Taker, rest: &[Lexeme]) -> Result<(), Trouble> {
+    fn take_params(&mut self, taker: Taker, rest: &[Lexeme]) -> Made<()> {
         for lexeme in rest {
             if lexeme.kind != Kind::Braced {
                 continue;
@@ -102,7 +101,7 @@ impl<'a> Gather<'a, '_> {
                     break;
                 }
                 let Some((param, after)) = param_at(taker, rest) else {
-                    return Err(Trouble::Refused(Refusal::Parameter, piece.at));
+                    return self.refuse(Refusal::Parameter, piece.at);
                 };
                 self.parts.params.push(param)?;
                 rest = after;
@@ -153,7 +152,7 @@ impl<'a> Gather<'a, '_> {
     }
 
     /// Takes in a variable with its value, which may have the same value before.
-    fn take_define(&mut self, rest: &[Lexeme]) -> Result<(), Trouble> {
+    fn take_define(&mut self, rest: &[Lexeme]) -> Made<()> {
         let Some((named, rest)) = rest.split_first() else {
             return Ok(());
         };
@@ -171,21 +170,21 @@ impl<'a> Gather<'a, '_> {
         let (name, at) = (named.text(self.source), named.span.from);
         for before in &self.defined {
             if before.name == name && before.value != value {
-                return Err(Trouble::Refused(Refusal::Redefined, at));
+                return self.refuse(Refusal::Redefined, at);
             }
         }
         self.defined.push(Defined { name, value, at })?;
         match self.parts.options.define(name, value, is_code) {
             Ok(()) => Ok(()),
-            Err(refusal) => Err(Trouble::Refused(refusal, at)),
+            Err(refusal) => self.refuse(refusal, at),
         }
     }
 
     /// Refuses a language or a skeleton that isn't the one.
-    fn only(&self, rest: &[Lexeme], wanted: &str, refusal: Refusal) -> Result<(), Trouble> {
+    fn only(&mut self, rest: &[Lexeme], wanted: &str, refusal: Refusal) -> Made<()> {
         match (self.string(rest), rest.first()) {
             (Some(named), Some(lexeme)) if !is_word(named, wanted) => {
-                Err(Trouble::Refused(refusal, lexeme.span.from))
+                self.refuse(refusal, lexeme.span.from)
             }
             _ => Ok(()),
         }
@@ -218,29 +217,27 @@ impl<'a> Gather<'a, '_> {
     }
 
     /// Takes in a directive that stands for nothing in the grammar.
-    pub fn take_aside(&mut self, word: &[u8], rest: &[Lexeme]) -> Result<(), Trouble> {
+    pub fn take_aside(&mut self, word: &[u8], rest: &[Lexeme]) -> Made<()> {
         match word_of(word) {
-            Word::Code => self.take_code(rest)?,
-            Word::Initial => {
-                if let Some(piece) = self.first(rest, Kind::Braced) {
-                    self.take_text(Target::Initial, piece)?;
-                }
+            Word::Code => self.take_code(rest),
+            Word::Initial => match self.first(rest, Kind::Braced) {
+                Some(piece) => self.take_text(Target::Initial, piece),
+                None => Ok(()),
+            },
+            Word::Params(taker) => self.take_params(taker, rest),
+            Word::Care(deed) => self.take_care(deed, rest),
+            Word::Define => self.take_define(rest),
+            Word::Language => self.only(rest, "c", Refusal::Language),
+            Word::Skeleton => self.only(rest, "yacc.c", Refusal::Skeleton),
+            Word::Require => match (self.string(rest).map(required), rest.first()) {
+                (Some(Err(refusal)), Some(lexeme)) => self.refuse(refusal, lexeme.span.from),
+                _ => Ok(()),
+            },
+            word => {
+                self.take_option(word, rest);
+                Ok(())
             }
-            Word::Params(taker) => self.take_params(taker, rest)?,
-            Word::Care(deed) => self.take_care(deed, rest)?,
-            Word::Define => self.take_define(rest)?,
-            Word::Language => self.only(rest, "c", Refusal::Language)?,
-            Word::Skeleton => self.only(rest, "yacc.c", Refusal::Skeleton)?,
-            Word::Require => {
-                if let (Some(version), Some(lexeme)) = (self.string(rest), rest.first()) {
-                    if let Err(refusal) = required(version) {
-                        return Err(Trouble::Refused(refusal, lexeme.span.from));
-                    }
-                }
-            }
-            word => self.take_option(word, rest),
         }
-        Ok(())
     }
 
     /// Takes in a list of symbols that it names so: each has the tag before it and the number after

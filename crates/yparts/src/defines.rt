@@ -114,21 +114,17 @@ fn only(value: &[u8], wanted: &str, refusal: Refusal) -> Result<(), Refusal> {
     }
 }
 
-/// The variable of a name.
-fn variable_of(name: &[u8]) -> Result<Variable, Refusal> {
-    for (known, variable) in &VARIABLES {
-        if is_word(name, known) {
-            return Ok(*variable);
-        }
-    }
-    Err(Refusal::Variable)
-}
-
 impl<'a> Options<'a> {
     /// Gives a variable a value, the text between its quotes or braces, and says whether it stood
     /// in braces.
     pub fn define(&mut self, name: &[u8], value: &'a [u8], is_code: bool) -> Result<(), Refusal> {
-        match variable_of(name)? {
+        let mut found = None;
+        for (known, variable) in &VARIABLES {
+            if found.is_none() && is_word(name, known) {
+                found = Some(*variable);
+            }
+        }
+        match found.ok_or(Refusal::Variable)? {
             Variable::Pure => self.purity = purity(value)?,
             Variable::Errors => self.errors = errors(value)?,
             Variable::Trace => self.trace = switch(value)?,

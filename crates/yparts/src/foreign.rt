@@ -2,11 +2,12 @@
 
 use crate::gather::Gather;
 use crate::parts::{By, Parts, Piece, Target};
-use crate::refusal::{Refusal, Trouble};
+use crate::refusal::Refusal;
+use crate::words::is_only_bison;
 use std::alloc::Global;
 use std::mem;
 use yexplain::lines::is_inner;
-use yexplain::reads::left_of;
+use yexplain::reads::{Made, left_of};
 use yforeign::directive::Directive;
 use yforeign::groups::{Group, Head, groups_of};
 use yforeign::lexeme::Lexeme;
@@ -15,28 +16,24 @@ use ysymbols::Grammar;
 
 impl<'a> Gather<'a, '_> {
     /// Takes in a declaration.
-    fn take_declaration(
-        &mut self,
-        directive: Directive,
-        lexemes: &[Lexeme],
-    ) -> Result<(), Trouble> {
+    fn take_declaration(&mut self, directive: Directive, lexemes: &[Lexeme]) -> Made<()> {
         let Some((word, rest)) = lexemes.split_first() else {
             return Ok(());
         };
         let word = word.text(self.source);
-        self.see_word(word);
+        let options = &mut self.parts.options;
+        options.is_bison = options.is_bison || is_only_bison(word);
         match directive {
-            Directive::Type | Directive::Nterm => self.take_list(rest, By::Name)?,
-            directive if directive.names_tokens() => self.take_list(rest, By::Token)?,
-            directive if directive.is_level() => self.take_list(rest, By::Name)?,
-            Directive::Union => self.take_union(rest)?,
-            _ => self.take_aside(word, rest)?,
+            Directive::Type | Directive::Nterm => self.take_list(rest, By::Name),
+            directive if directive.names_tokens() => self.take_list(rest, By::Token),
+            directive if directive.is_level() => self.take_list(rest, By::Name),
+            Directive::Union => self.take_union(rest),
+            _ => self.take_aside(word, rest),
         }
-        Ok(())
     }
 
     /// Takes in a group; after the second mark stands the rest of the file.
-    fn take(&mut self, group: &Group<'_>) -> Result<(), Trouble> {
+    fn take(&mut self, group: &Group<'_>) -> Made<()> {
         let Some(first) = group.lexemes.first() else {
             return Ok(());
         };
@@ -48,7 +45,7 @@ impl<'a> Gather<'a, '_> {
             }
             Head::Code => self.take_block(first)?,
             Head::Left => self.take_rule(group.lexemes)?,
-            Head::Bar => self.take_bar(group.lexemes)?,
+            Head::Bar => self.take_body(group.lexemes.get(1..).unwrap_or(&[]))?,
             Head::Mark if group.in_rules => {
                 let at = first.span.to;
                 let text = self.source.get(at..).unwrap_or(&[]);
@@ -77,30 +74,29 @@ impl<'a> Gather<'a, '_> {
     }
 
     /// Refuses what bison doesn't take beside each other, in a file of bison.
-    fn refuse_doubles(&self) -> Result<(), Trouble> {
+    fn refuse_doubles(&mut self) -> Made<()> {
         let mut has_union = false;
         for block in &self.parts.blocks {
             has_union = has_union || block.target == Target::Union;
         }
         for defined in &self.defined {
             if has_union && defined.name == b"api.value.type".as_slice() {
-                return Err(Trouble::Refused(Refusal::Values, defined.at));
+                self.parts.refused.push((Refusal::Values, defined.at))?;
             }
         }
         match self.second {
-            Some(at) if self.parts.options.is_bison => {
-                Err(Trouble::Refused(Refusal::SecondCare, at))
-            }
+            Some(at) if self.parts.options.is_bison => self.refuse(Refusal::SecondCare, at),
             _ => Ok(()),
         }
     }
 
     /// Takes in all groups.
-    fn take_all(&mut self, groups: &[Group<'_>]) -> Result<(), Trouble> {
+    fn take_all(&mut self, groups: &[Group<'_>]) -> Made<()> {
         for group in groups {
             self.take(group)?;
         }
         self.refuse_doubles()?;
+        self.parts.refused.sort_by_key(|it| it.1)?;
         self.label_all()?;
         let actions = mem::replace(&mut self.actions, Vec::new(self.alloc));
         self.parts.set_actions(self.grammar, &actions)?;
@@ -118,7 +114,7 @@ pub fn parts_of<'a, 'b>(
     grammar: &'b Grammar,
     imported: &'b Imported,
     is_bison: bool,
-) -> Result<Parts<'a>, Trouble> {
+) -> Made<Parts<'a>> {
     let groups = groups_of(alloc, source, &imported.lexemes)?;
     let mut gather = Gather {
         alloc,

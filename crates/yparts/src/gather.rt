@@ -1,7 +1,7 @@
 //! The parts of a foreign file while they are gathered.
 
 use crate::parts::{By, Defined, Mention, Parts, Piece};
-use crate::words::is_only_bison;
+use crate::refusal::Refusal;
 use std::alloc::Global;
 use yexplain::reads::Made;
 use yforeign::directive::is_word;
@@ -54,17 +54,16 @@ impl<'a, 'b> Gather<'a, 'b> {
         }
     }
 
+    /// Notes why no parser is made, at a place.
+    pub fn refuse(&mut self, refusal: Refusal, at: usize) -> Made<()> {
+        self.parts.refused.push((refusal, at))?;
+        Ok(())
+    }
+
     /// The symbol that a lexeme names.
     pub fn symbol(&self, lexeme: &Lexeme) -> Made<Option<Sym>> {
         let spelling = &self.imported.spelling;
         spelling.symbol(self.alloc, self.source, self.grammar, lexeme)
-    }
-
-    /// Notes whether a directive is one that only bison has.
-    pub fn see_word(&mut self, text: &[u8]) {
-        if is_only_bison(text) {
-            self.parts.options.is_bison = true;
-        }
     }
 
     /// Notes whether a lexeme of a list or of a body is one that byacc doesn't take: a name with a

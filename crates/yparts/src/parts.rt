@@ -1,6 +1,7 @@
 //! The parts of a file that go into its parser.
 
 use crate::options::Options;
+use crate::refusal::Refusal;
 use std::alloc::Global;
 use yexplain::lines::is_inner;
 use yexplain::reads::Made;
@@ -200,6 +201,8 @@ pub struct Parts<'a> {
     pub defined: Vec<Defined<'a>>,
     /// Wishes.
     pub options: Options<'a>,
+    /// Why no parser is made, each with its place.
+    pub refused: Vec<(Refusal, usize)>,
 }
 
 /// What is known of a symbol of which the file says nothing.
@@ -226,6 +229,7 @@ impl<'a> Parts<'a> {
             tail: None,
             defined: Vec::new(alloc),
             options: Options::none(),
+            refused: Vec::new(alloc),
         })
     }
 

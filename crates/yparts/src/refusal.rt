@@ -1,9 +1,7 @@
 //! Why a parser isn't made for what a file says.
 
-use std::alloc::{AllocError, AllocFailed};
-
 /// What a file asks for that no parser of this kind has.
-#[derive(Clone, Copy, Debug, Drop, PartialEq, Eq)]
+#[derive(Clone, Copy, Drop, PartialEq, Eq)]
 pub enum Refusal {
     /// Another language than C.
     Language,
@@ -57,26 +55,5 @@ impl Refusal {
             Refusal::Redefined => "the variable has another value already",
             Refusal::SecondCare => "these values have such code already",
         }
-    }
-}
-
-/// Why there are no parts.
-#[derive(Clone, Copy, Drop)]
-pub enum Trouble {
-    /// Something is refused that stands at this place of the file.
-    Refused(Refusal, usize),
-    /// Memory ran out.
-    Memory,
-}
-
-impl From<AllocError> for Trouble {
-    fn from(_refused: AllocError) -> Trouble {
-        Trouble::Memory
-    }
-}
-
-impl<T: Drop> From<AllocFailed<T>> for Trouble {
-    fn from(_refused: AllocFailed<T>) -> Trouble {
-        Trouble::Memory
     }
 }

@@ -1,6 +1,6 @@
 //! Actions as C: the values and places that they name are those of the stack.
 
-use crate::references::{Dialect, Piece, Reference, Whose, piece_at};
+use crate::references::{Dialect, Piece, Reference, piece_at};
 use crate::scene::{Member, Misuse, Scene};
 use std::alloc::AllocError;
 use yfiles::output::Output;
@@ -39,18 +39,6 @@ fn put_value<'a>(out: &mut Output, scene: &Scene<'a>, value: Reference<'a>) -> R
     Ok(())
 }
 
-/// Writes a place that an action names.
-fn put_place(out: &mut Output, scene: &Scene<'_>, whose: Whose<'_>) -> Result<(), Misuse> {
-    if let Some(place) = scene.place(whose)? {
-        out.put("(yylsp[");
-        out.signed(place);
-        out.put("])");
-    } else {
-        out.put_pieces(&[b"(", scene.location.as_bytes(), b")"]);
-    }
-    Ok(())
-}
-
 /// Writes an action as C.
 pub fn put_action<'a>(
     out: &mut Output,
@@ -69,7 +57,19 @@ pub fn put_action<'a>(
                 Ok(())
             }
             Piece::Value(value) => put_value(out, scene, value),
-            Piece::Place(whose) => put_place(out, scene, whose),
+            Piece::Place(whose) => match scene.place(whose) {
+                Ok(Some(place)) => {
+                    out.put("(yylsp[");
+                    out.signed(place);
+                    out.put("])");
+                    Ok(())
+                }
+                Ok(None) => {
+                    out.put_pieces(&[b"(", scene.location.as_bytes(), b")"]);
+                    Ok(())
+                }
+                Err(misuse) => Err(misuse),
+            },
         };
         if let Err(misuse) = written {
             let before = text.text.len().saturating_sub(rest.len());

@@ -34,7 +34,7 @@ impl<'a> Skeleton<'a> {
     }
 
     /// Writes code of the file that names values and places.
-    fn put_code(
+    pub fn put_code(
         &self,
         out: &mut Output,
         piece: Piece<'a>,
@@ -78,17 +78,6 @@ impl<'a> Skeleton<'a> {
                 self.put_piece(out, tail);
             }
         }
-    }
-
-    /// Writes the actions before the first token.
-    pub fn put_initial(&self, out: &mut Output) -> Result<(), Trouble> {
-        for block in &self.parts.blocks {
-            if block.target == Target::Initial {
-                let scene = self.value_scene(None, ("yylval", "yylloc"));
-                self.put_code(out, block.piece, &scene)?;
-            }
-        }
-        Ok(())
     }
 
     /// Writes the actions.

@@ -195,17 +195,6 @@ const BYACC_PLACES: &str = "\n#if ! defined YYLTYPE && ! defined YYLTYPE_IS_DECL
     # define YYLTYPE_IS_DECLARED 1\n#endif\n";
 
 impl Skeleton<'_> {
-    /// Writes a member for each symbol that has a tag.
-    fn put_fields(&self, out: &mut Output) {
-        for symbol in 0..self.grammar.symbols() {
-            let name = name_of(self.grammar, symbol);
-            if let (Some(tag), true) = (self.parts.tag_of(symbol), is_c_name(name)) {
-                let prefix = self.style.member_prefix(self.grammar, symbol);
-                out.put_pieces(&[b"  ", tag, b" ", prefix, name, b";\n"]);
-            }
-        }
-    }
-
     /// Writes a union of values, and the front of another name for it.
     fn put_union(&self, out: &mut Output) {
         let (front, name): (&[u8], &[u8]) = match self.style.options.union_name {
@@ -213,16 +202,21 @@ impl Skeleton<'_> {
             None => (self.style.macros.as_slice(), b"STYPE"),
         };
         out.put_pieces(&[b"union ", front, name, b"\n{\n"]);
-        if self.style.options.values == Values::Symbols {
-            self.put_fields(out);
-        } else {
-            for block in &self.parts.blocks {
-                if block.target == Target::Union {
-                    let mut piece = block.piece;
-                    let end = piece.text.len().saturating_sub(1);
-                    piece.text = piece.text.get(1..end).unwrap_or(&[]);
-                    self.put_piece(out, piece);
-                }
+        let has_fields = self.style.options.values == Values::Symbols;
+        for symbol in 0..self.grammar.symbols() {
+            let name = name_of(self.grammar, symbol);
+            let is_field = has_fields && is_c_name(name);
+            if let (Some(tag), true) = (self.parts.tag_of(symbol), is_field) {
+                let prefix = self.style.member_prefix(self.grammar, symbol);
+                out.put_pieces(&[b"  ", tag, b" ", prefix, name, b";\n"]);
+            }
+        }
+        for block in &self.parts.blocks {
+            if block.target == Target::Union && !has_fields {
+                let mut piece = block.piece;
+                let end = piece.text.len().saturating_sub(1);
+                piece.text = piece.text.get(1..end).unwrap_or(&[]);
+                self.put_piece(out, piece);
             }
         }
         out.put_pieces(&[b"};\ntypedef union ", front, name]);

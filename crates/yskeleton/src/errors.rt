@@ -15,6 +15,9 @@ typedef struct
   int yyup; /* how many states stand above it */
 } yyway;
 
+/* Where a way begins: on top of a stack. */
+#define YYSETOUT(way, top) ((way).yybelow = (top), (way).yyup = 0)
+
 /* Reduces by a rule, and gives the state after it, or -1 where there is no room. */
 static int
 yygo (yyway *yywayp, int yyrulep)
@@ -60,8 +63,7 @@ yycan_come (const yystate_number *yyssp, int yytoken)
   yyway yywayd;
   int yystate = *yyssp;
   int yyn;
-  yywayd.yybelow = yyssp;
-  yywayd.yyup = 0;
+  YYSETOUT (yywayd, yyssp);
   for (;;)
     {
       yyn = yydoes (yystate, yytoken) - YYNSTATES;
@@ -141,8 +143,7 @@ yysees (const yystate_number *yyssp, int yytoken)
   yyway yywayd;
   int yystate = *yyssp;
   int yyn;
-  yywayd.yybelow = yyssp;
-  yywayd.yyup = 0;
+  YYSETOUT (yywayd, yyssp);
   while (yystate >= 0)
     {
       yyn = yydoes (yystate, yytoken) - YYNSTATES;
@@ -217,8 +218,8 @@ pub const MESSAGE: &str = r##"
 static char *
 yycopied (char *yyto, const char *yyfrom)
 {
-  size_t yylength = strlen (yyfrom);
-  memcpy (yyto, yyfrom, yylength + 1);
+  size_t yylength = YYSTRLEN (yyfrom);
+  YYMEMCPY (yyto, yyfrom, yylength + 1);
   return yyto + yylength;
 }
 #endif
@@ -259,7 +260,7 @@ yyunquoted (char *yyto, const char *yyname)
     }
   if (yyto)
     return YY_CAST (size_t, yystpcpy (yyto, yyname) - yyto);
-  return strlen (yyname);
+  return YYSTRLEN (yyname);
 }
 #endif
 # define YYCOPY(to, token) yytnamerr (to, yytname[token])
@@ -268,9 +269,9 @@ yyunquoted (char *yyto, const char *yyname)
 static size_t
 yyspelled (char *yyto, const char *yyname)
 {
-  size_t yylength = strlen (yyname);
+  size_t yylength = YYSTRLEN (yyname);
   if (yyto)
-    memcpy (yyto, yyname, yylength + 1);
+    YYMEMCPY (yyto, yyname, yylength + 1);
   return yylength;
 }
 @end
@@ -297,7 +298,7 @@ yysyntax_error (char *yyroom, size_t yysize, const yystate_number *yyssp, int yy
     case 4: yyform = YY_("syntax error, unexpected %s, expecting %s or %s or %s"); break;
     default: yyform = YY_("syntax error, unexpected %s, expecting %s or %s or %s or %s"); break;
     }
-  yylength = strlen (yyform) + 1;
+  yylength = YYSTRLEN (yyform) + 1;
   for (yyn = 0; yyn < yycount; ++yyn)
     yylength += YYCOPY (YY_NULLPTR, yytokens[yyn]);
   if (yylength > yysize)

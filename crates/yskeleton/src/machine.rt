@@ -239,7 +239,7 @@ yygrow:
         YYFREE (yynewvs);
         YYNOMEM;
       }
-    memcpy (YY_CAST (void *, yynewls), YY_CAST (const void *, yyls), yyused * sizeof *yynewls);
+    YYMEMCPY (YY_CAST (void *, yynewls), YY_CAST (const void *, yyls), yyused * sizeof *yynewls);
 @end
 @if speaks
     yynewleaf = YY_CAST (yyleaves *, YYMALLOC (YYROOM (yydepth) * sizeof *yynewleaf));
@@ -250,10 +250,10 @@ yygrow:
 @locations         YYFREE (yynewls);
         YYNOMEM;
       }
-    memcpy (yynewleaf, yyleaf, yyused * sizeof *yynewleaf);
+    YYMEMCPY (yynewleaf, yyleaf, yyused * sizeof *yynewleaf);
 @end
-    memcpy (yynewss, yyss, yyused * sizeof *yynewss);
-    memcpy (YY_CAST (void *, yynewvs), YY_CAST (const void *, yyvs), yyused * sizeof *yynewvs);
+    YYMEMCPY (yynewss, yyss, yyused * sizeof *yynewss);
+    YYMEMCPY (YY_CAST (void *, yynewvs), YY_CAST (const void *, yyvs), yyused * sizeof *yynewvs);
     if (yyss != yyssa)
       {
         YYFREE (yyss);

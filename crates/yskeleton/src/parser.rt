@@ -12,7 +12,7 @@ use crate::words::{FRONT, INCLUDES, WORDS};
 use std::alloc::Global;
 use yexplain::reads::Made;
 use yfiles::output::Output;
-use yparts::options::Purity;
+use yparts::options::{Errors, Purity};
 use yparts::parts::{Deed, Target};
 
 /// The names that a prefix changes.
@@ -170,10 +170,10 @@ impl Skeleton<'_> {
             speech.put(out);
             style.put_fixed(out, SPOKEN);
         }
-        if style.names_tokens() {
+        if matches!(style.errors(), Errors::Verbose | Errors::Detailed) {
             style.put_fixed(out, MESSAGE);
         }
-        if style.is_custom() {
+        if style.errors() == Errors::Custom {
             style.put_fixed(out, CUSTOM);
         }
     }
@@ -197,7 +197,12 @@ impl Skeleton<'_> {
             out.put("\n#if ! defined yylex && ! defined YYSTATE\nint YYLEX_DECL();\n#endif\n");
         }
         style.put_fixed(out, BEGIN);
-        self.put_initial(out)?;
+        for block in &self.parts.blocks {
+            if block.target == Target::Initial {
+                let scene = self.value_scene(None, ("yylval", "yylloc"));
+                self.put_code(out, block.piece, &scene)?;
+            }
+        }
         style.put_fixed(out, MACHINE);
         self.put_actions(out)?;
         style.put_fixed(out, END);

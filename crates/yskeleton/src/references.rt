@@ -6,7 +6,7 @@ use yforeign::runs::line_length;
 use ylexemes::bytes::{after_comment, digit_run, is_name_byte, is_name_start};
 
 /// Whose value or place is meant.
-#[derive(Clone, Copy, Debug, PartialEq, Eq)]
+#[derive(Clone, Copy, PartialEq, Eq)]
 pub enum Whose<'a> {
     /// The left side's, `$$`.
     Left,

@@ -48,31 +48,6 @@ impl<T: Drop> From<AllocFailed<T>> for Trouble {
     }
 }
 
-impl Why {
-    /// Says what is wrong.
-    fn say(&self, one: &mut Diagnostic, lines: &Lines) -> io::Result<()> {
-        match self {
-            Why::NoName => one.say("this is no name in C")?,
-            Why::Second => one.say("a comment has named this rule already")?,
-            Why::Taken(name, rule) => {
-                let rule = Numbered(lines, *rule);
-                one.message.write_all(name)?;
-                write!(one.message, " is the name of {rule} too")?;
-            }
-        }
-        Ok(())
-    }
-
-    /// How to mend it.
-    fn mend(&self) -> &'static str {
-        match self {
-            Why::NoName => "Write letters, digits and underscores, the first no digit.",
-            Why::Second => "Leave one of the names.",
-            Why::Taken(_, _) => "Give one of both another name, as by /* name: other */.",
-        }
-    }
-}
-
 impl Refusal {
     /// What is wrong, with the line of the place, and how to mend it.
     pub fn diagnostic(
@@ -83,8 +58,23 @@ impl Refusal {
     ) -> io::Result<Diagnostic> {
         let at = self.at;
         let mut one = Diagnostic::at(alloc, Place { path, source, at }, true)?;
-        self.why.say(&mut one, lines)?;
-        one.note(alloc, self.why.mend())?;
+        let mend = match &self.why {
+            Why::NoName => {
+                one.say("this is no name in C")?;
+                "Write letters, digits and underscores, the first no digit."
+            }
+            Why::Second => {
+                one.say("a comment has named this rule already")?;
+                "Leave one of the names."
+            }
+            Why::Taken(name, rule) => {
+                let rule = Numbered(lines, *rule);
+                one.message.write_all(name)?;
+                write!(one.message, " is the name of {rule} too")?;
+                "Give one of both another name, as by /* name: other */."
+            }
+        };
+        one.note(alloc, mend)?;
         Ok(one)
     }
 }

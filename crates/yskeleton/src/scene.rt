@@ -11,7 +11,7 @@ use yparts::parts::{Action, Named, Parts};
 use ysymbols::{Grammar, Sym};
 
 /// What is wrong with a value or place that an action names.
-#[derive(Clone, Copy, Debug, Drop, PartialEq, Eq)]
+#[derive(Clone, Copy, Drop, PartialEq, Eq)]
 pub enum Misuse {
     /// A symbol of this number is named, and only so many stand before the action.
     OutOfRange(i64, usize),
@@ -26,7 +26,7 @@ pub enum Misuse {
 }
 
 /// A misuse, and how many bytes of the file stand before it.
-#[derive(Clone, Copy, Debug, Drop)]
+#[derive(Clone, Copy, Drop)]
 pub struct Misused {
     /// The misuse.
     pub misuse: Misuse,
@@ -105,35 +105,29 @@ impl<'a> Skeleton<'a> {
         }
     }
 
-    /// Adds what is misused in an action.
-    fn add_misuses(&self, action: Action<'a>, found: &mut Vec<Misused>) -> Made<()> {
-        let scene = self.action_scene(action);
-        let (dialect, text) = (self.style.dialect(), action.piece.text);
-        let mut rest = text;
-        for _ in text {
-            let Some((piece, _, after)) = piece_at(rest, dialect) else {
-                break;
-            };
-            let misuse = match piece {
-                Piece::Text => None,
-                Piece::Value(value) => scene.locate(value).err(),
-                Piece::Place(whose) => scene.place(whose).err(),
-            };
-            if let Some(misuse) = misuse {
-                let before = text.len().saturating_sub(rest.len());
-                let at = action.piece.at.saturating_add(before);
-                found.push(Misused { misuse, at })?;
-            }
-            rest = after;
-        }
-        Ok(())
-    }
-
     /// What is misused in actions, in the order of the file.
     pub fn misuses(&self, alloc: Global) -> Made<Vec<Misused>> {
-        let mut found = Vec::new(alloc);
+        let (dialect, mut found) = (self.style.dialect(), Vec::new(alloc));
         for action in &self.parts.actions {
-            self.add_misuses(*action, &mut found)?;
+            let scene = self.action_scene(*action);
+            let text = action.piece.text;
+            let mut rest = text;
+            for _ in text {
+                let Some((piece, _, after)) = piece_at(rest, dialect) else {
+                    break;
+                };
+                let misuse = match piece {
+                    Piece::Text => None,
+                    Piece::Value(value) => scene.locate(value).err(),
+                    Piece::Place(whose) => scene.place(whose).err(),
+                };
+                if let Some(misuse) = misuse {
+                    let before = text.len().saturating_sub(rest.len());
+                    let at = action.piece.at.saturating_add(before);
+                    found.push(Misused { misuse, at })?;
+                }
+                rest = after;
+            }
         }
         Ok(found)
     }

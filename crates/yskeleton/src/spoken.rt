@@ -157,9 +157,9 @@ yyfold (yyleaves *yytop, int yylength)
 static size_t
 yyadd (char *yyto, size_t yyat, const char *yytext)
 {
-  size_t yylength = strlen (yytext);
+  size_t yylength = YYSTRLEN (yytext);
   if (yyto)
-    memcpy (yyto + yyat, yytext, yylength + 1);
+    YYMEMCPY (yyto + yyat, yytext, yylength + 1);
   return yyat + yylength;
 }
 

@@ -9,7 +9,7 @@ use yparts::parts::{Deed, Parts, Target};
 use ysymbols::{Grammar, Sym, let_go};
 
 /// Whose order and names a parser has.
-#[derive(Clone, Copy, Debug, PartialEq, Eq)]
+#[derive(Clone, Copy, PartialEq, Eq)]
 pub enum Mode {
     /// byacc's.
     Byacc,
@@ -167,16 +167,6 @@ impl<'a> Style<'a> {
         }
     }
 
-    /// Whether an error's text names tokens.
-    pub fn names_tokens(&self) -> bool {
-        matches!(self.errors(), Errors::Verbose | Errors::Detailed)
-    }
-
-    /// Whether the user tells of errors.
-    pub fn is_custom(&self) -> bool {
-        self.errors() == Errors::Custom
-    }
-
     /// Whether a parser reduces by default as bison's does.
     pub fn is_most(&self) -> bool {
         matches!(self.wishes.policy, Policy::Most)
@@ -186,11 +176,6 @@ impl<'a> Style<'a> {
     /// reduced at the token.
     pub fn looks_ahead(&self) -> bool {
         self.options.lac && self.is_bison() && !self.wishes.speaks
-    }
-
-    /// Whether entries are taken off the stack again after a token was discarded, as bison's do.
-    pub fn pops_again(&self) -> bool {
-        self.is_most() || self.looks_ahead()
     }
 
     /// Whether tokens that could come are asked for.
@@ -244,11 +229,11 @@ impl<'a> Style<'a> {
             "locations" => self.locations,
             "destroys" => self.destroys,
             "prints" => self.prints,
-            "expecting" => self.names_tokens(),
+            "expecting" => matches!(self.errors(), Errors::Verbose | Errors::Detailed),
             "verbose" => self.errors() == Errors::Verbose,
-            "custom" => self.is_custom(),
+            "custom" => self.errors() == Errors::Custom,
             "lists" => self.lists(),
-            "again" => self.pops_again(),
+            "again" => self.is_most() || self.looks_ahead(),
             "lac" => self.looks_ahead(),
             "recalls" => self.recalls(),
             "looks" => self.looks_ahead() || self.recalls(),

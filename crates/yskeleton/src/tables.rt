@@ -260,12 +260,8 @@ impl Skeleton<'_> {
             put_array(out, "yytranslate", &numbering.array, code.tokens);
             numbering.put_above(alloc, out, code.tokens)?;
         } else {
-            put_array(
-                out,
-                "yytranslate",
-                code.numbers.as_slice(),
-                code.numbers.greatest(),
-            );
+            let (numbers, greatest) = (code.numbers.as_slice(), code.numbers.greatest());
+            put_array(out, "yytranslate", numbers, greatest);
         }
         for (name, numbers) in [
             ("yylhs", &code.lefts),

@@ -21,7 +21,19 @@ pub const INCLUDES: &str = r##"
 #include <stdio.h>
 #endif
 #include <stdlib.h>
-#include <string.h>
+@if bison
+/* A program without a library of C can have a <string.h> of its own. */
+#include <stddef.h>
+#ifdef __GNUC__
+# define YYMEMCPY __builtin_memcpy
+# define YYSTRLEN __builtin_strlen
+#endif
+@end
+#ifndef YYMEMCPY
+# include <string.h>
+# define YYMEMCPY memcpy
+# define YYSTRLEN strlen
+#endif
 
 #ifndef YY_CAST
 # ifdef __cplusplus

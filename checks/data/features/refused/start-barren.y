@@ -2,7 +2,7 @@
 %token A B
 %%
 /* refused below: start symbol s does not derive any sentence */
-s : A s | t B
+s : A s | s t B
   ;
 t : A
   ;

@@ -1,7 +1,7 @@
 /* bison tells: -Wno-other */
 %token A B
 %%
-s : A s | t B s
+s : A s | s t B
   ;
 t : A
   ;

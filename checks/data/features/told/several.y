@@ -1,0 +1,8 @@
+/* bison tells: */
+%token A
+%first ;
+%second ;
+%third word ;
+%%
+s : A
+  ;
