@@ -16,6 +16,7 @@ GROUPS = {
         "ambiguities": "comparers.ambiguities",
         "documents": "comparers.documents",
         "hints": "comparers.hints",
+        "choices": "comparers.choices",
         "texts": "comparers.texts",
         "verdicts": "comparers.verdicts",
         "coverage": "comparers.coverage",

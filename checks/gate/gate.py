@@ -42,6 +42,7 @@ RUNNERS = (
     ["ambiguities", SECONDS, "--turns=800"],
     ["documents", SECONDS, "--turns=120"],
     ["hints", SECONDS, "--turns=800"],
+    ["choices", SECONDS, "--turns=600"],
     ["coverage", SECONDS, "--turns=600"],
     ["texts", SECONDS, "--turns=300"],
     ["verdicts"],

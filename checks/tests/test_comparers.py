@@ -5,8 +5,8 @@ from functools import partial
 from unittest import mock
 
 from checks.comparers import (
-    ambiguities, causes, conflicts, coverage, documents, errors, faults, hints, programs, texts,
-    verdicts, written
+    ambiguities, causes, choices, conflicts, coverage, documents, errors, faults, hints, programs,
+    texts, verdicts, written
 )
 from checks.shared.grammars import grammar_of
 from checks.shared.machine import replies_of
@@ -302,6 +302,29 @@ class Hints(Planted):
         self.assertEqual([it[2] for it in hints.judged(self.draw, warning)], [False])
         missed = warning.replace("y:2:", "y:1:")
         self.assertEqual([it[2] for it in hints.judged(self.draw, missed)], [False])
+
+
+class Choices(Planted):
+    """What a choice is said to lose, and doesn't."""
+
+    def wrong(self, tried):
+        """Whether each choice in a line is told wrongly."""
+        rules = [("s", "s A s"), ("s", "B")]
+        draw = choices.Plain(["A", "B"], [], rules)
+        report = "  To choose, name A in a line: %left reduces, %right shifts.\n"
+        return [bool(it) for _, it in choices.judged(draw, f"{report}  Tried on all {tried}.\n")]
+
+    def test_each_choice(self):
+        """How many sentences there are, how many are lost, and one of them."""
+        right = "3 sentences of up to 5 tokens: the shift by %right loses none"
+        self.assertEqual(self.wrong(right), [False])
+        self.assertEqual(self.wrong(right.replace("3", "4")), [True])
+        self.assertEqual(self.wrong(right.replace("right", "nonassoc")), [True])
+        lost = "3 sentences of up to 5 tokens: the reduction by %nonassoc loses 1, such as {}"
+        self.assertEqual(self.wrong(lost.format("B A B A B")), [False])
+        self.assertEqual(self.wrong(lost.format("B A B")), [True])
+        self.assertEqual(self.wrong(lost.format("B B")), [True])
+        self.assertEqual(self.wrong(lost.format("B A B A B").replace("loses 1", "loses 2")), [True])
 
 
 class OverTexts(Planted):

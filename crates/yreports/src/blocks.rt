@@ -32,6 +32,8 @@ pub struct Entry {
 pub struct Loss {
     /// The choice.
     pub deed: Deed,
+    /// The word of the lines of precedence that make it.
+    pub word: &'static str,
     /// On how many sentences it was tried, which are all of up to so many tokens.
     pub short: usize,
     pub most: usize,

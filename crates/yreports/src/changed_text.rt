@@ -13,7 +13,7 @@ fn put_name<W: Write>(out: &mut W, grammar: &Grammar, symbol: Sym) -> io::Result
 }
 
 /// The directive for lines of precedence.
-fn directive_of(kind: Associativity) -> &'static str {
+pub fn directive_of(kind: Associativity) -> &'static str {
     match kind {
         Associativity::Left => "%left",
         Associativity::Right => "%right",
@@ -39,9 +39,24 @@ fn put_level<W: Write>(out: &mut W, grammar: &Grammar, level: usize) -> io::Resu
     writeln!(out)
 }
 
+/// The name of a precedence of a rule's own, which no file has a token of.
+const OWN: &[u8] = b"own.precedence";
+
+/// Writes the line of a precedence of a rule's own.
+fn put_own<W: Write>(out: &mut W) -> io::Result<()> {
+    out.write_all(b"\n%nonassoc ")?;
+    out.write_all(OWN)?;
+    writeln!(out)
+}
+
 /// Writes the declarations: the tokens that have names, not literals, and no precedence; those of
-/// each level; the start symbol.
-fn put_declarations<W: Write>(out: &mut W, grammar: &Grammar) -> io::Result<()> {
+/// each level, and a precedence of a rule's own, where it goes before one or after it; the start
+/// symbol.
+fn put_declarations<W: Write>(
+    out: &mut W,
+    grammar: &Grammar,
+    own: Option<(usize, bool)>,
+) -> io::Result<()> {
     let mut last: usize = 0;
     for token in ERROR..token_count(grammar) {
         if let Some(it) = level_of(grammar, token) {
@@ -53,7 +68,13 @@ fn put_declarations<W: Write>(out: &mut W, grammar: &Grammar) -> io::Result<()> 
         }
     }
     for level in 1..last.saturating_add(1) {
+        if own == Some((level, true)) {
+            put_own(out)?;
+        }
         put_level(out, grammar, level)?;
+        if own == Some((level, false)) {
+            put_own(out)?;
+        }
     }
     if let Some(start) = body_of(grammar, 0).first() {
         out.write_all(b"%start")?;
@@ -84,6 +105,16 @@ pub enum Change {
         symbol: Sym,
         /// The rule.
         rule: usize,
+    },
+    /// With a precedence of its own for a rule, by a new name, beside that of a token, which gets a
+    /// line after all others where it has none.
+    Own {
+        /// The rule.
+        rule: usize,
+        /// The token.
+        token: Sym,
+        /// Whether the token's line is the later one.
+        shifts: bool,
     },
     /// With one or two lines of precedence after all others.
     Lines {
@@ -135,28 +166,53 @@ impl Changed<'_> {
             // an action at the end would be that of the rule
             out.write_all(b" {}")?;
         }
-        if let Some(giver) = self.lines.giver(grammar, rule) {
+        let is_own = matches!(self.change, Change::Own { rule: it, .. } if it == rule);
+        if is_own {
+            out.write_all(b" %prec ")?;
+            out.write_all(OWN)?;
+        } else if let Some(giver) = self.lines.giver(grammar, rule) {
             out.write_all(b" %prec")?;
             put_name(out, grammar, giver)?;
         }
         out.write_all(b" ;\n")
     }
 
+    /// Writes the declarations, with lines of precedence that are new.
+    fn put_lines<W: Write>(self, out: &mut W) -> io::Result<()> {
+        let grammar = self.grammar;
+        match self.change {
+            Change::Without(_) | Change::Copied { .. } => put_declarations(out, grammar, None),
+            Change::Lines {
+                kind,
+                first,
+                second,
+            } => {
+                put_declarations(out, grammar, None)?;
+                put_line(out, grammar, kind, first)?;
+                match second {
+                    Some(second) => put_line(out, grammar, kind, second),
+                    None => Ok(()),
+                }
+            }
+            Change::Own { token, shifts, .. } => {
+                if let Some(it) = level_of(grammar, token) {
+                    return put_declarations(out, grammar, Some((it.level, shifts)));
+                }
+                put_declarations(out, grammar, None)?;
+                if shifts {
+                    put_own(out)?;
+                    return put_line(out, grammar, Associativity::Nonassoc, token);
+                }
+                put_line(out, grammar, Associativity::Nonassoc, token)?;
+                put_own(out)
+            }
+        }
+    }
+
     /// Writes the grammar, and after it the rules of a copy, which are those of its nonterminal.
     pub fn put<W: Write>(self, out: &mut W) -> io::Result<()> {
         let (grammar, change) = (self.grammar, self.change);
-        put_declarations(out, grammar)?;
-        if let Change::Lines {
-            kind,
-            first,
-            second,
-        } = change
-        {
-            put_line(out, grammar, kind, first)?;
-            if let Some(second) = second {
-                put_line(out, grammar, kind, second)?;
-            }
-        }
+        self.put_lines(out)?;
         out.write_all(b"\n%%\n")?;
         for rule in 1..grammar.rules() {
             if change != Change::Without(rule) && !is_inner(grammar, rule) {

@@ -4,19 +4,20 @@
 use crate::ambiguity::rivals_of;
 use crate::blocks::{Block, Blocks, Loss};
 use crate::changed::tables_after;
-use crate::changed_text::Change;
+use crate::changed_text::{Change, directive_of};
 use crate::short::short_sentences;
 use std::alloc::{AllocError, Global};
 use std::io::{self, Write};
 use yambiguity::answer::Ambiguities;
-use yexplain::advice::Deed;
+use yexplain::advice::{Advice, Deed, Hint};
 use yexplain::lines::Lines;
-use yexplain::mends::mend_of;
+use yexplain::mends::{Mend, mend_of};
 use yexplain::reads::{Made, grammar_of, name_of};
 use yexplain::text::Names;
+use yexplain::why::Question;
 use yparse::{Tokens, Verdict, judge};
 use ysearch::search::Finder;
-use ysymbols::{Grammar, Sym};
+use ysymbols::{Associativity, Grammar, Sym};
 use ytables::Tables;
 
 /// The most blocks of conflicts to which longer sentences come, and how many of their conflicts'
@@ -109,7 +110,13 @@ impl Pool {
     }
 
     /// What comes of a choice, by tables with it.
-    fn loss(&self, alloc: Global, grammar: &Grammar, tables: &Tables, deed: Deed) -> Made<Loss> {
+    fn loss(
+        &self,
+        alloc: Global,
+        grammar: &Grammar,
+        tables: &Tables,
+        (deed, word): (Deed, &'static str),
+    ) -> Made<Loss> {
         let (mut lost, mut first) = (0usize, Vec::new(alloc));
         let chosen = grammar_of(tables);
         for sentence in &self.sentences {
@@ -126,6 +133,7 @@ impl Pool {
         }
         Ok(Loss {
             deed,
+            word,
             short: self.short,
             most: self.most,
             longer: self.sentences.len().saturating_sub(self.short),
@@ -133,6 +141,32 @@ impl Pool {
             first,
         })
     }
+}
+
+/// The change that makes a choice that a hint on a cell offers, and the word of its lines, where it
+/// is one or two lines after all others or a precedence of the rule's own.
+fn change_of(asked: Question<'_>, hint: Hint, deed: Deed) -> Option<(Change, &'static str)> {
+    if let Hint::Settle(rule, Advice::Own) = hint {
+        let (token, shifts) = (asked.token, deed == Deed::Shift);
+        let change = Change::Own {
+            rule,
+            token,
+            shifts,
+        };
+        return Some((change, directive_of(Associativity::Nonassoc)));
+    }
+    let Mend {
+        kind,
+        first,
+        second,
+        ..
+    } = mend_of(asked, hint, deed)?;
+    let change = Change::Lines {
+        kind,
+        first,
+        second,
+    };
+    Some((change, directive_of(kind)))
 }
 
 /// Tries the choices that are offered in the first classes of conflicts on sentences, unless there
@@ -154,16 +188,10 @@ pub fn try_choices(alloc: Global, tables: &Tables, lines: &Lines, blocks: &mut B
             }
             left = left.saturating_sub(1);
             for deed in [Deed::Shift, Deed::Reduce] {
-                if let Some(mend) = mend_of(entry.cell(tables, lines), hint, deed) {
-                    let change = Change::Lines {
-                        kind: mend.kind,
-                        first: mend.first,
-                        second: mend.second,
-                    };
+                if let Some((change, word)) = change_of(entry.cell(tables, lines), hint, deed) {
                     if let Some(chosen) = tables_after(alloc, grammar, lines, change)? {
-                        class
-                            .losses
-                            .push(pool.loss(alloc, grammar, &chosen, deed)?)?;
+                        let loss = pool.loss(alloc, grammar, &chosen, (deed, word))?;
+                        class.losses.push(loss)?;
                     }
                 }
             }
@@ -191,7 +219,7 @@ pub fn put_losses<W: Write>(out: &mut W, grammar: &Grammar, losses: &[Loss]) -> 
             Deed::Shift => "the shift",
             Deed::Reduce => "the reduction",
         };
-        write!(out, "{mark} {deed} loses ")?;
+        write!(out, "{mark} {deed} by {} loses ", loss.word)?;
         match loss.lost {
             0 => write!(out, "none")?,
             lost => write!(out, "{lost}, such as{}", Names(grammar, &loss.first))?,

@@ -7,8 +7,10 @@ use yparse::states::act;
 use ysymbols::Sym;
 use ytables::{Action, Tables};
 
-/// The most sentences, and how often a token is gone on over in all.
+/// The most sentences, their most tokens, and how often a token is gone on over in all.
 const MOST_SENTENCES: usize = 400;
+
+const MOST_TOKENS: usize = 40;
 
 const MOST_TRIALS: usize = 60_000;
 
@@ -100,8 +102,12 @@ pub fn short_sentences(alloc: Global, tables: &Tables) -> Made<Short> {
             // all shorter ones were gone on from
             (most, whole) = (length, search.sentences.len());
         }
+        if length > MOST_TOKENS {
+            break;
+        }
         if !search.go_on(alloc, tables, place)? {
-            whole = search.sentences.len();
+            // there are no others
+            (most, whole) = (most.saturating_add(1), search.sentences.len());
             break;
         }
     }
