@@ -90,6 +90,11 @@ fn put_found<W: Write>(
 }
 
 impl Search<'_> {
+    /// The grammar.
+    fn grammar(&self) -> &Grammar {
+        grammar_of(self.seeker.session.tables())
+    }
+
     /// Writes an example for a conflict, which is on these tokens.
     fn put<W: Write>(
         &mut self,
@@ -99,8 +104,7 @@ impl Search<'_> {
         (entry, tokens): (&Entry, &[Sym]),
     ) -> io::Result<()> {
         let kind = &entry.kind;
-        let grammar = grammar_of(self.seeker.session.tables());
-        heading.put(page, grammar, (kind.shift, tokens));
+        heading.put(page, self.grammar(), (kind.shift, tokens));
         if !self.seeker.finder.has_steps() {
             page.line("  The search for an example would take too long.");
             return page.checked();
@@ -109,7 +113,7 @@ impl Search<'_> {
         let asked = (entry, &finding);
         let answers = answers_of(alloc, &mut self.seeker, &mut self.found, asked, true)?;
         let text = AmbiguityText {
-            grammar: grammar_of(self.seeker.session.tables()),
+            grammar: self.grammar(),
             lines,
             trees: &self.found.trees,
             dot: "•",

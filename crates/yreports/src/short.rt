@@ -74,7 +74,10 @@ impl Search {
             }
             self.trials = self.trials.saturating_add(1);
         }
-        while let Some(prefix) = longer.pop() {
+        for _ in 0..longer.len() {
+            let Some(prefix) = longer.pop() else {
+                break;
+            };
             self.prefixes.push(prefix)?;
         }
         Ok(true)

@@ -12,7 +12,7 @@ use yparse::Session;
 use ysearch::lists::Lists;
 use ysearch::search::Finder;
 use ysymbols::Sym;
-use ytables::Action;
+use ytables::{Action, Tables};
 
 /// How many further lists are tried for an element that the first one misses.
 const MOST_OTHERS: usize = 20;
@@ -178,17 +178,22 @@ impl<'a> Chooser<'a> {
         Ok(())
     }
 
+    /// The tables.
+    fn tables(&self) -> &Tables {
+        self.trier.session.tables()
+    }
+
     /// Offers the shortest sentence of each rule that no one uses yet, the longest first.
     fn offer_rules(&mut self) -> io::Result<()> {
         let (alloc, shortest) = (self.alloc, &self.seeker.finder.shortest);
-        let grammar = grammar_of(self.trier.session.tables());
+        let grammar = grammar_of(self.tables());
         let contexts = Contexts::new(alloc, grammar, shortest)?;
         for place in &contexts.order(alloc, grammar, shortest)? {
             let is_done = self.rules.get(place.rule).copied().unwrap_or(true);
             if is_done || !self.seeker.finder.has_steps() {
                 continue;
             }
-            let tables = self.trier.session.tables();
+            let tables = self.tables();
             // the end counts for one token
             let sought = if place.length > MOST_TOKENS.saturating_add(1) {
                 Sought::Long
@@ -237,7 +242,7 @@ impl<'a> Chooser<'a> {
     fn seek_rules(&mut self) -> io::Result<()> {
         let goals = self.goals_of_rules()?;
         // the rules that a cell reduces by at `error`, which no parse looks up
-        let (alloc, tables) = (self.alloc, self.trier.session.tables());
+        let (alloc, tables) = (self.alloc, self.tables());
         let mut marks = vec![in alloc; false; self.chosen.used.len()]?;
         for state in 0..tables.automaton().states() {
             if let Action::Reduce(rule) = action_of(tables, state, ERROR) {
@@ -249,7 +254,7 @@ impl<'a> Chooser<'a> {
                 self.seek(*goal, rule)?;
             }
             let is_marked = marks.get(rule).copied().unwrap_or(false);
-            let grammar = grammar_of(self.trier.session.tables());
+            let grammar = grammar_of(self.tables());
             let is_live = match left_of(grammar, rule) {
                 Some(left) => is_reachable(grammar, left),
                 None => false,
