@@ -177,6 +177,9 @@ pub fn try_choices(alloc: Global, tables: &Tables, lines: &Lines, blocks: &mut B
         return Ok(());
     }
     let pool = Pool::of(alloc, tables, blocks)?;
+    if pool.sentences.is_empty() {
+        return Ok(());
+    }
     let mut left = MOST_CLASSES;
     for block in blocks.list.iter_mut() {
         for class in block.classes.iter_mut() {
@@ -205,13 +208,18 @@ pub fn put_losses<W: Write>(out: &mut W, grammar: &Grammar, losses: &[Loss]) -> 
     let Some(first) = losses.first() else {
         return Ok(());
     };
-    write!(
-        out,
-        "Tried on all {} sentences of up to {} tokens",
-        first.short, first.most
-    )?;
-    if first.longer > 0 {
-        write!(out, ", and on {} longer ones", first.longer)?;
+    let (short, most, longer) = (first.short, first.most, first.longer);
+    let ones = if longer == 1 { "one" } else { "ones" };
+    match (short, longer) {
+        (0, _) => write!(out, "Tried on longer sentences ({longer})")?,
+        (_, 0) => write!(
+            out,
+            "Tried on all sentences of up to {most} tokens ({short})"
+        )?,
+        _ => write!(
+            out,
+            "Tried on all sentences of up to {most} tokens ({short}), and on {longer} longer {ones}"
+        )?,
     }
     let mut mark = ':';
     for loss in losses {
