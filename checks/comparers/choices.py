@@ -35,7 +35,7 @@ SHIFTED = re.compile(r"To shift (\S+), name it and (\S+) on two lines ")
 TOKEN = re.compile(r"To choose, name (\S+) on a line of .*: later than \S+ shifts ")
 GIVER = re.compile(r"To choose, name (\S+) on a line of .*: earlier than \S+ shifts ")
 OWN = re.compile(
-    r"To choose, write %nonassoc LOW above (the line of|%nonassoc) (\S+), .* rule (\d+):"
+    r"To choose, write %nonassoc LOW\w* above (the line of|%nonassoc) (\S+), .* rule (\d+):"
 )
 ALONE = re.compile(r"To (?:shift (\S+), name it|reduce by rule \d+, name (\S+)) (?:in|on) a line ")
 MOST_REDUCTIONS, MOST_TRIALS = 1_000, 200_000
