@@ -26,7 +26,8 @@ from checks.shared.tally import Tally
 
 KINDS = ["left", "right", "nonassoc"]
 TRIED = re.compile(
-    r"  Tried on all (\d+) sentences of up to (\d+) tokens(?:, and on (\d+) longer ones)?: (.*)\."
+    r"  Tried on (?:all sentences of up to (\d+) tokens \((\d+)\)(?:, and on (\d+) longer ones?)?"
+    r"|longer sentences \((\d+)\)): (.*)\."
 )
 CHOICE = re.compile(r"the (shift|reduction) by %(\w+) loses (?:none|(\d+), such as (.*))")
 ONE = re.compile(r"To choose, name (\S+) in a line: ")
@@ -177,7 +178,8 @@ def lines_for(draw, hint, deed, kind):
 
 def wrong_in(draw, hint, tried, choice):
     """What is wrong with what is said of a choice, or nothing."""
-    short, most, longer = (int(tried[at] or 0) for at in (1, 2, 3))
+    most, short = (int(tried[at] or 0) for at in (1, 2))
+    longer = int(tried[3] or tried[4] or 0)
     deed, kind, lost = choice[1], choice[2], int(choice[3] or 0)
     before = Cells(draw.grammar())
     lines = lines_for(draw, hint, deed, kind)
@@ -205,7 +207,7 @@ def judged(draw, text):
         if line.startswith("  To "):
             hints = [line.strip()]
         elif tried and hints:
-            for part in tried[4].split("; "):
+            for part in tried[5].split("; "):
                 choice = CHOICE.fullmatch(part)
                 yield line, wrong_in(draw, hints[0], tried, choice) if choice else "what is it?"
 

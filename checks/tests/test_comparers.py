@@ -312,15 +312,16 @@ class Choices(Planted):
         rules = [("s", "s A s"), ("s", "B")]
         draw = choices.Plain(["A", "B"], [], rules)
         report = "  To choose, name A in a line: %left reduces, %right shifts.\n"
-        return [bool(it) for _, it in choices.judged(draw, f"{report}  Tried on all {tried}.\n")]
+        report += f"  Tried on all sentences of up to {tried}.\n"
+        return [bool(it) for _, it in choices.judged(draw, report)]
 
     def test_each_choice(self):
         """How many sentences there are, how many are lost, and one of them."""
-        right = "3 sentences of up to 5 tokens: the shift by %right loses none"
+        right = "5 tokens (3): the shift by %right loses none"
         self.assertEqual(self.wrong(right), [False])
-        self.assertEqual(self.wrong(right.replace("3", "4")), [True])
+        self.assertEqual(self.wrong(right.replace("(3)", "(4)")), [True])
         self.assertEqual(self.wrong(right.replace("right", "nonassoc")), [True])
-        lost = "3 sentences of up to 5 tokens: the reduction by %nonassoc loses 1, such as {}"
+        lost = "5 tokens (3): the reduction by %nonassoc loses 1, such as {}"
         self.assertEqual(self.wrong(lost.format("B A B A B")), [False])
         self.assertEqual(self.wrong(lost.format("B A B")), [True])
         self.assertEqual(self.wrong(lost.format("B B")), [True])
