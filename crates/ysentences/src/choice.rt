@@ -1,6 +1,6 @@
 //! The sentences that are kept: each uses something that no other one does.
 
-use crate::contexts::Contexts;
+use crate::contexts::{Contexts, Place};
 use crate::elements::Kind;
 use crate::seek::{Goal, MOST_TOKENS, Seeker, Sought};
 use crate::trial::Trier;
@@ -12,7 +12,7 @@ use yparse::Session;
 use ysearch::lists::Lists;
 use ysearch::search::Finder;
 use ysymbols::Sym;
-use ytables::{Action, Tables};
+use ytables::Action;
 
 /// How many further lists are tried for an element that the first one misses.
 const MOST_OTHERS: usize = 20;
@@ -178,35 +178,40 @@ impl<'a> Chooser<'a> {
         Ok(())
     }
 
-    /// The tables.
-    fn tables(&self) -> &Tables {
-        self.trier.session.tables()
-    }
-
     /// Offers the shortest sentence of each rule that no one uses yet, the longest first.
     fn offer_rules(&mut self) -> io::Result<()> {
-        let (alloc, shortest) = (self.alloc, &self.seeker.finder.shortest);
-        let grammar = grammar_of(self.tables());
-        let contexts = Contexts::new(alloc, grammar, shortest)?;
-        for place in &contexts.order(alloc, grammar, shortest)? {
+        let (contexts, order) = self.contexts()?;
+        for place in &order {
             let is_done = self.rules.get(place.rule).copied().unwrap_or(true);
             if is_done || !self.seeker.finder.has_steps() {
                 continue;
             }
-            let tables = self.tables();
-            // the end counts for one token
-            let sought = if place.length > MOST_TOKENS.saturating_add(1) {
-                Sought::Long
-            } else {
-                let form = contexts.form(alloc, grammar_of(tables), place.rule)?;
-                self.seeker.sentence(tables, &form)?
-            };
-            match sought {
+            match self.rule_sentence(&contexts, *place)? {
                 Sought::Sentence(tokens) => self.offer(tokens)?,
                 _ => self.miss(Kind::Rules, place.rule, Missing::Long),
             }
         }
         Ok(())
+    }
+
+    /// The shortest ways to rules, and the rules, the one with the longest sentence first.
+    fn contexts(&self) -> Made<(Contexts, Vec<Place>)> {
+        let (alloc, shortest) = (self.alloc, &self.seeker.finder.shortest);
+        let grammar = grammar_of(self.trier.session.tables());
+        let contexts = Contexts::new(alloc, grammar, shortest)?;
+        let order = contexts.order(alloc, grammar, shortest)?;
+        Ok((contexts, order))
+    }
+
+    /// The shortest sentence of a rule.
+    fn rule_sentence(&self, contexts: &Contexts, place: Place) -> Made<Sought> {
+        // the end counts for one token
+        if place.length > MOST_TOKENS.saturating_add(1) {
+            return Ok(Sought::Long);
+        }
+        let tables = self.trier.session.tables();
+        let form = contexts.form(self.alloc, grammar_of(tables), place.rule)?;
+        self.seeker.sentence(tables, &form)
     }
 
     /// Notes why an element of a kind isn't used, where that is the kind that is wanted.
@@ -240,32 +245,40 @@ impl<'a> Chooser<'a> {
     /// Seeks sentences for the rules that none uses yet, by cells that reduce by them; and notes
     /// why a rule isn't used that can't be.
     fn seek_rules(&mut self) -> io::Result<()> {
-        let goals = self.goals_of_rules()?;
-        // the rules that a cell reduces by at `error`, which no parse looks up
-        let (alloc, tables) = (self.alloc, self.tables());
-        let mut marks = vec![in alloc; false; self.chosen.used.len()]?;
-        for state in 0..tables.automaton().states() {
-            if let Action::Reduce(rule) = action_of(tables, state, ERROR) {
-                set(&mut marks, rule, true);
-            }
-        }
+        let (goals, marks) = (self.goals_of_rules()?, self.at_error()?);
         for rule in 1..self.chosen.used.len() {
             for goal in goals.of(rule) {
                 self.seek(*goal, rule)?;
             }
             let is_marked = marks.get(rule).copied().unwrap_or(false);
-            let grammar = grammar_of(self.tables());
-            let is_live = match left_of(grammar, rule) {
-                Some(left) => is_reachable(grammar, left),
-                None => false,
-            };
-            if !is_live {
+            if !self.is_live(rule) {
                 self.miss(Kind::Rules, rule, Missing::Unreachable);
             } else if goals.of(rule).is_empty() && !is_marked {
                 self.miss(Kind::Rules, rule, Missing::Lost);
             }
         }
         Ok(())
+    }
+
+    /// The rules that a cell reduces by at `error`, which no parse looks up.
+    fn at_error(&self) -> Made<Vec<bool>> {
+        let (alloc, tables) = (self.alloc, self.trier.session.tables());
+        let mut marks = vec![in alloc; false; self.chosen.used.len()]?;
+        for state in 0..tables.automaton().states() {
+            if let Action::Reduce(rule) = action_of(tables, state, ERROR) {
+                set(&mut marks, rule, true);
+            }
+        }
+        Ok(marks)
+    }
+
+    /// Whether the left side of a rule can be reached.
+    fn is_live(&self, rule: usize) -> bool {
+        let grammar = grammar_of(self.trier.session.tables());
+        match left_of(grammar, rule) {
+            Some(left) => is_reachable(grammar, left),
+            None => false,
+        }
     }
 
     /// The first cells that reduce by each rule that no sentence uses.

@@ -65,7 +65,10 @@ impl Skeleton<'_> {
     fn end_label(&self) -> &[u8] {
         for given in &self.parts.numbers {
             if given.token == 0 {
-                return self.parts.ends.first().copied().unwrap_or(b"$end");
+                return match self.parts.ends.first() {
+                    Some(end) => *end,
+                    None => b"$end",
+                };
             }
         }
         b"\"end of file\""
