@@ -86,6 +86,15 @@ impl<'a> Inputs<'a> {
         }
     }
 
+    /// Texts that are cut by a SPEC; without one, tokens, which may stand below texts.
+    pub(crate) fn cut_by(tables: &'a Tables, lexer: Option<&'a Lexer>) -> Inputs<'a> {
+        Inputs {
+            tables,
+            lexer,
+            noted: lexer.is_none(),
+        }
+    }
+
     /// Inputs of a language: texts, where it has a SPEC.
     pub fn of_language(language: &'a Language) -> Inputs<'a> {
         Inputs {

@@ -176,11 +176,8 @@ impl Messages {
                 Err(fault) => return fault.tell_of(rt, told, grammar, tables).map(Err),
             },
         };
-        let inputs = Inputs {
-            tables,
-            lexer: lexer.as_ref(),
-            noted: lexer.is_none(),
-        };
+        let lent = lexer.as_ref();
+        let inputs = Inputs::cut_by(tables, lent);
         Messages::either(rt.alloc(), inputs, path, bytes, told)
     }
 
