@@ -1,8 +1,8 @@
 /* bison draws: */
-%token T1 T2 T3 '"' '\\' '\t'
+%token TA TB TC '"' '\\' '\t'
 %%
 all : one | all ';' one ;
-one : T1 two T1 | T2 two T2 | T3 two '"' '\\' ;
+one : TA two TA | TB two TB | TC two '"' '\\' ;
 two : a | b | c | %empty ;
 a : 'x' | a 'x' ;
 b : 'y' | 'x' 'y' | b '\t' ;
