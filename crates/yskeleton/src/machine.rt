@@ -75,21 +75,21 @@ YYPARSE_DECL()
 @end
 #endif
 @names   (void) yytname;
-  memset (YY_CAST (void *, &yyval), 0, sizeof yyval);
+  YYMEMSET (YY_CAST (void *, &yyval), 0, sizeof yyval);
   yynerrs = 0;
   yychar = YYNOTOKEN;
-  memset (YY_CAST (void *, yyvsp), 0, sizeof *yyvsp);
+  YYMEMSET (YY_CAST (void *, yyvsp), 0, sizeof *yyvsp);
 @if pure
-  memset (YY_CAST (void *, &yylval), 0, sizeof yylval);
+  YYMEMSET (YY_CAST (void *, &yylval), 0, sizeof yylval);
 @if locations
-  memset (YY_CAST (void *, &yylloc), 0, sizeof yylloc);
+  YYMEMSET (YY_CAST (void *, &yylloc), 0, sizeof yylloc);
 # if defined YYLTYPE_IS_TRIVIAL && YYLTYPE_IS_TRIVIAL
   yylloc.first_line = yylloc.last_line = 1;
   yylloc.first_column = yylloc.last_column = 1;
 # endif
 @end
 @end
-@locations   memset (YY_CAST (void *, yyerror_range), 0, sizeof yyerror_range);
+@locations   YYMEMSET (YY_CAST (void *, yyerror_range), 0, sizeof yyerror_range);
 @speaks   yyleaf->yycount = 0;
   *yyssp = 0;
 "##;
@@ -182,7 +182,7 @@ yyreduce:
   if (yym > 0)
     yyval = *(yyvsp - yym + 1);
   else
-    memset (YY_CAST (void *, &yyval), 0, sizeof yyval);
+    YYMEMSET (YY_CAST (void *, &yyval), 0, sizeof yyval);
 @if locations
   YYLLOC_DEFAULT (yyloc, (yylsp - yym), YY_CAST (int, yym));
   yyerror_range[1] = yyloc;

@@ -26,12 +26,14 @@ pub const INCLUDES: &str = r##"
 #include <stddef.h>
 #ifdef __GNUC__
 # define YYMEMCPY __builtin_memcpy
+# define YYMEMSET __builtin_memset
 # define YYSTRLEN __builtin_strlen
 #endif
 @end
 #ifndef YYMEMCPY
 # include <string.h>
 # define YYMEMCPY memcpy
+# define YYMEMSET memset
 # define YYSTRLEN strlen
 #endif
 
