@@ -35,34 +35,30 @@ pub fn sought_for(
     lines: &Lines,
     conflicts: &Conflicts,
 ) -> io::Result<Sought> {
-    let mut sought = Sought {
-        blocks: blocks_of(alloc, session.tables(), lines, conflicts)?,
-        findings: Vec::new(alloc),
-        answers: Vec::new(alloc),
-        found: Ambiguities::new(alloc),
-    };
-    try_hints(
-        alloc,
-        session.tables(),
-        lines,
-        conflicts,
-        &mut sought.blocks,
-    )?;
-    try_choices(alloc, session.tables(), lines, &mut sought.blocks)?;
+    let mut blocks = blocks_of(alloc, session.tables(), lines, conflicts)?;
+    try_hints(alloc, session.tables(), lines, conflicts, &mut blocks)?;
+    try_choices(alloc, session.tables(), lines, &mut blocks)?;
+    let (mut findings, mut answers) = (Vec::new(alloc), Vec::new(alloc));
+    let mut found = Ambiguities::new(alloc);
     let mut seeker = Seeker::new(alloc, session)?;
     for (kind, group) in conflicts.groups.iter().take(MOST_SOUGHT) {
         if !seeker.finder.has_steps() {
             break;
         }
-        let (number, next) = (sought.findings.len(), sought.answers.len());
-        let block = sought.blocks.list.get(next);
+        let (number, next) = (findings.len(), answers.len());
+        let block = blocks.list.get(next);
         let begun = block.filter(|block| block.first.number == number);
         let finding = seeker.find(kind, *group)?;
         if let Some(block) = begun {
-            let answers = block_answers(alloc, &mut seeker, &mut sought.found, block, &finding)?;
-            sought.answers.push(answers).map_err(AllocError::from)?;
+            let some = block_answers(alloc, &mut seeker, &mut found, block, &finding)?;
+            answers.push(some).map_err(AllocError::from)?;
         }
-        sought.findings.push(finding).map_err(AllocError::from)?;
+        findings.push(finding).map_err(AllocError::from)?;
     }
-    Ok(sought)
+    Ok(Sought {
+        blocks,
+        findings,
+        answers,
+        found,
+    })
 }
