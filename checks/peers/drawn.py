@@ -3,16 +3,16 @@
     drawn [--packages N] [--seed N] [--most MB] [--jobs N] [--keep FOLDER] [ycc=PATH] [PACKAGE..]
 
 N packages (35) whose sources take at most MB (12) are drawn by a seed (1) from those that name
-bison, byacc or btyacc among what they build with, or those that are named are taken. `configure` is
-run where there is one, for each of the two with its programs found first, as a build finds them.
-Each grammar in a package's source goes through the program that the package asks for, and through
-`ycc` by that program's name: both have to take it, to give the same tokens the same numbers, and to
-write a parser that compiles, in C++ where the grammar's file has such a name, with what is there;
-where the package needs headers that this machine lacks, ours has to come to no error that the other
-doesn't. What is no LALR parser in C (GLR, C++, another language), and what the package's own program
-refuses, is named and not counted. A package passes if all of its grammars do. It takes a network,
-bison, byacc and a C compiler, and isn't part of the gate. The line before the last is the share; the
-last is `N passed, M failed`.
+bison, byacc or btyacc among what they build with, or those that are named are taken. `configure`
+is run where there is one, for each of the two with its programs found first, as a build finds
+them. Each grammar in a package's source goes through the program that the package asks for, and
+through `ycc` by that program's name: both have to take it, to give the same tokens the same
+numbers, and to write a parser that compiles, in C++ where the grammar's file has such a name, with
+what is there; where the package needs headers that this machine lacks, ours has to come to no
+error that the other doesn't. What is no LALR parser in C (GLR, C++, another language), and what
+the package's own program refuses, is named and not counted. A package passes if all of its
+grammars do. It takes a network, bison, byacc and a C compiler, and isn't part of the gate. The
+line before the last is the share; the last is `N passed, M failed`.
 """
 import os
 import random
