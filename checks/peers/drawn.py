@@ -3,29 +3,32 @@
     drawn [--packages N] [--seed N] [--most MB] [--jobs N] [--keep FOLDER] [ycc=PATH] [PACKAGE..]
 
 N packages (35) whose sources take at most MB (12) are drawn by a seed (1) from those that name
-bison, byacc or btyacc among what they build with, or those that are named are taken. `configure` is
-run where there is one. Each grammar in a package's source goes through the program that the package
-asks for, and through `ycc` by that program's name: both have to take it, to give the same tokens
-the same numbers, and to write a parser that compiles, with what is there; where the package needs
-headers that this machine lacks, ours has to come to no error that the other doesn't. What is no
-LALR parser in C (GLR, C++, another language), and what the package's own program refuses, is named
-and not counted. A package passes if all of its grammars do. It takes a network, bison, byacc and a
-C compiler, and isn't part of the gate. The line before the last is the share; the last is
-`N passed, M failed`.
+bison, byacc or btyacc among what they build with, or those that are named are taken. `configure`
+is run where there is one, for each of the two with its programs found first, as a build finds
+them. Each grammar in a package's source goes through the program that the package asks for, and
+through `ycc` by that program's name: both have to take it, to give the same tokens the same
+numbers, and to write a parser that compiles, in C++ where the grammar's file has such a name, with
+what is there; where the package needs headers that this machine lacks, ours has to come to no
+error that the other doesn't. What is no LALR parser in C (GLR, C++, another language), and what
+the package's own program refuses, is named and not counted. A package passes if all of its
+grammars do. It takes a network, bison, byacc and a C compiler, and isn't part of the gate. The
+line before the last is the share; the last is `N passed, M failed`.
 """
 import os
 import random
 import re
+import shutil
 import tempfile
 from collections import Counter
 from concurrent.futures import ThreadPoolExecutor
-from contextlib import ExitStack, suppress
+from contextlib import ExitStack
 from dataclasses import dataclass
 from functools import partial
 from pathlib import Path
 from subprocess import TimeoutExpired
 
 from checks.peers.debian import Apt, Unfetched
+from checks.peers.package_build import Build, Generators, lay_shims
 from checks.shared.arguments import asked
 from checks.shared.running import ran
 from checks.shared.tally import Tally
@@ -33,7 +36,8 @@ from checks.shared.tally import Tally
 USES = re.compile(r"(?<![\w.+-])(bison|byacc|btyacc)(?![\w.+-])")
 FIELD = re.compile(r"(?m)^([\w-]+):[ \t]*(.*(?:\n[ \t].*)*)")
 SIZE = re.compile(r"(?m)^ [0-9a-f]{32} (\d+) \S+$")
-ENDINGS = {".y", ".yy", ".yacc", ".ypp", ".yxx", ".y++"}
+IN_C_PLUS_PLUS = {".yy", ".ypp", ".yxx", ".y++"}
+ENDINGS = {".y", ".yacc"} | IN_C_PLUS_PLUS
 # What says that a parser isn't one of LALR in C, each with its name.
 OUTSIDE = {
     "GLR": re.compile(rb"%glr-parser|%skeleton\s*\"glr"),
@@ -45,7 +49,8 @@ OUTSIDE = {
 # Comments, strings and code, in which no directive stands.
 ASIDE = re.compile(rb"/\*.*?\*/|//[^\n]*|%\{.*?%\}", re.S)
 TOKEN = re.compile(r"(?m)^(?:#define\s+|\s+)(\w+)\s*(?:=\s*)?(\d+)\s*,?\s*(?:/\*.*)?$")
-ERROR = re.compile(r"(?m)^([^\n:]*):(?:\d+:)*\s*(?:fatal )?error: (.*)$")
+# An error, without the name that a compiler proposes.
+ERROR = re.compile(r"(?m)^([^\n:]*):(?:\d+:)*\s*(?:fatal )?error: (.*?)(?:; did you mean .*)?$")
 LACKING = re.compile(r"fatal error: (\S+): No such file")
 # The words for a parser that is its peer's: as a whole, or but for what neither compiles.
 ALIKE, PARTLY = "alike", "alike where it compiles"
@@ -64,8 +69,8 @@ class User:
 
 @dataclass(frozen=True)
 class Made:
-    """What a program made of a grammar: a refusal, its tokens' numbers, a compiler's errors, each with
-    whether it is in code of the package."""
+    """What a program made of a grammar: a refusal, its tokens' numbers, a compiler's errors, each
+    with whether it is in code of the package."""
 
     refusal: str = ""
     tokens: tuple = ()
@@ -136,13 +141,16 @@ def first_error(text):
 
 
 def compiled(room, file, package):
-    """The errors of a compiler on a parser; headers that lack are made up, empty."""
-    parts = ["-I.", f"-I{file.parent}", *(f"-I{it}" for it in folders_of_headers(package))]
+    """The errors of a compiler on a parser; headers that lack are made up, empty. A package's own
+    headers hide none of the system's."""
+    parts = ["-I.", f"-I{file.parent}"]
+    parts += [f"-idirafter{it}" for it in folders_of_headers(package)]
     config = ["-DHAVE_CONFIG_H"] if any(package.rglob("config.h")) else []
+    language = "c++" if file.suffix in IN_C_PLUS_PLUS else "c"
+    words = ["cc", "-w", "-fsyntax-only", "-fmax-errors=0", *config, *parts, "-x", language]
     said = ""
     for _ in range(MADE_UP):
-        words = ["cc", "-w", "-fsyntax-only", "-fmax-errors=0", *config, *parts, "parser.c"]
-        said = ran(words, room, timeout=COMPILES).stderr
+        said = ran([*words, "parser.c"], room, timeout=COMPILES).stderr
         lacking = LACKING.search(said)
         if not lacking or lacking[1].startswith(("/", "..")):
             break
@@ -152,10 +160,16 @@ def compiled(room, file, package):
     return tuple(sorted((not re.search(r"\bparser\.[ch]$", name), text) for name, text in told))
 
 
-def made_by(command, room, file, package):
-    """What a program makes of a grammar, in a folder of its own."""
-    room.mkdir(parents=True)
-    made = ran([*command, "-d", "-o", f"{room}/parser.c", file.name], file.parent, timeout=COMPILES)
+def made_by(generator, build, file, number):
+    """What a generator makes of a grammar in a build, in a folder of its own."""
+    room = build.room / str(number)
+    room.mkdir()
+    file = build.folder / file
+    words = [build.room / "tools" / generator, "-d", "-o", room / "parser.c", file.name]
+    try:
+        made = ran(words, file.parent, timeout=COMPILES)
+    except TimeoutExpired:
+        return Made(refusal=f"it takes more than {COMPILES} seconds")
     if made.returncode or not (room / "parser.c").exists():
         return Made(refusal=first_error(made.stderr))
     header = room / "parser.h"
@@ -163,7 +177,8 @@ def made_by(command, room, file, package):
     for name in names_of_header(file.stem):
         if header.exists() and not (room / name).exists():
             (room / name).write_text(text)
-    return Made(tokens=tuple(sorted({*TOKEN.findall(text)})), errors=compiled(room, file, package))
+    errors = compiled(room, file, build.folder)
+    return Made(tokens=tuple(sorted({*TOKEN.findall(text)})), errors=errors)
 
 
 # --- what came of it
@@ -186,27 +201,16 @@ def verdict(ours, peer):
     return ALIKE, ""
 
 
-def looked_at(user, file, room, package, ycc):
-    """The word and the reason of one grammar."""
-    why = outside(file.read_bytes())
-    if why:
-        return "not counted", why
-    ours = [ycc, "--bison"] if user.generator == "bison" else [ycc]
-    late = Made(refusal=f"it takes more than {COMPILES} seconds")
-    made = []
-    for command, name in ((ours, "ours"), ([user.generator], "peer")):
-        try:
-            made.append(made_by(command, room / name, file, package))
-        except TimeoutExpired:
-            made.append(late)
-    return verdict(*made)
-
-
-def configure(package):
-    """Runs the `configure` of a package, whatever comes of it."""
-    if (package / "configure").exists():
-        with suppress(TimeoutExpired):
-            ran(["sh", "./configure"], package, timeout=CONFIGURES)
+def built(package, room, ycc):
+    """A package twice, configured with `ycc` and with its peers in front of all other programs."""
+    peer = Generators("peer", shutil.which("byacc"), shutil.which("bison"))
+    builds = []
+    for it in (Generators("ycc", ycc, f"{ycc} --bison"), peer):
+        lay_shims(room / it.name, it)
+        builds.append(Build(room / it.name, room / peer.name))
+        shutil.copytree(package, builds[-1].folder, symlinks=True)
+        builds[-1].shell(f"! test -e configure || timeout {CONFIGURES} sh ./configure")
+    return builds
 
 
 def counted(user, apt, given):
@@ -216,14 +220,16 @@ def counted(user, apt, given):
     except Unfetched:
         return [f"{user.name}: not fetched"], []
     files = list(grammars(package))
+    builds = []
     if any(not outside(it.read_bytes()) for it in files):
-        configure(package)
+        builds = built(package, apt.room / "made" / user.name, given.programs["ycc"])
     lines, words = [], []
-    for number, file in enumerate(files):
-        room = apt.room / "made" / user.name / str(number)
-        word, reason = looked_at(user, file, room, package, given.programs["ycc"])
+    for number, file in enumerate(it.relative_to(package) for it in files):
+        why = outside((package / file).read_bytes())
+        made = [] if why else [made_by(user.generator, it, file, number) for it in builds]
+        word, reason = ("not counted", why) if why else verdict(*made)
         words.append(word)
-        told = f"{user.name}: {file.relative_to(package)}: {word}"
+        told = f"{user.name}: {file}: {word}"
         lines.append(f"{told}: {reason}" if reason else told)
     return lines or [f"{user.name}: no grammar"], [it for it in words if it != "not counted"]
 

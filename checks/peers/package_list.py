@@ -71,6 +71,14 @@ DIVISIONS = Design(
     partial(refused_alike, rb"\d+\."),
 )
 
+# cproto reads byacc's own tables, where its `configure` sees a parser that has them.
+EXPECTED = partial(re.compile(rb"(?m)^Expected: .*\n").sub, b"")
+TABLES = Design(
+    "by tables of byacc's",
+    "what could come is told from byacc's own tables, which a parser of ycc doesn't have",
+    lambda ours, peer: (*ours[:2], EXPECTED(ours.err)) == (*peer[:2], EXPECTED(peer.err)),
+)
+
 # --- the calculator of our own, in builds of other kinds
 SUMS_OF_OURS = given((CALCULATOR / "sums").read_bytes())
 CMAKE = """cmake_minimum_required(VERSION 3.13)
@@ -137,6 +145,27 @@ XKB_TESTS = f"meson test -C out --no-rebuild | grep -Eo '{XKB_ENDS}' | sort"
 
 # --- libpcap: a program of its own reads an expression and prints the code for it.
 PCAP_BUILD = "cmake -B out -DBUILD_SHARED_LIBS=OFF -DDISABLE_DBUS=ON .\nmake -C out filtertest"
+
+# --- libtasn1 and libconfig: their makefiles make a parser again that is missing, in the folder.
+TASN1_BUILD = f"""./configure --disable-doc --disable-shared {SETTLED}
+make -C lib
+make -C src/gl
+make -C src asn1Parser"""
+CONFIG_BUILD = f"./configure --disable-cxx --disable-shared {SETTLED}\nmake -C lib"
+CONFIG_TESTS = "make -C tinytest && make -C tests && cd tests && ./libconfig_tests"
+
+# --- cproto: its tests compare what it writes with files, and say whether that is so.
+CPROTO_TESTS = "make -C testing check | grep '^[.]'"
+
+# --- libcue: its tests are programs that read what lies beside them.
+CUE_BUILD = "cmake -B out -DBUILD_SHARED_LIBS=OFF .\nmake -C out"
+CUE_ENDS = "[a-z0-9_]+_test \\.+ +[A-Za-z*]+"
+CUE_TESTS = f"cd out && ctest | grep -Eo '{CUE_ENDS}'"
+
+# --- msitools: its tests write databases by SQL, and say each in a line.
+MSI_BUILD = "meson setup out\nninja -C out"
+MSI_TESTS = """meson test -C out --no-rebuild > /dev/null
+grep -Eo '^(not )?ok [0-9]+.*' out/meson-logs/testlog.txt"""
 
 # --- byacc: the grammars of its tests whose parsers run, and those that are compiled. The others
 # are for btyacc, or to be refused, or have what ycc refuses: `%<` and `%0` for words (ok_syntax1,
@@ -310,6 +339,47 @@ PACKAGES = [
         needs=("cmake", "flex"),
         build=PCAP_BUILD,
         readers=(Reader("out/run/filtertest", ("-F", "input", "EN10MB"), FILTERS),),
+    ),
+    Package(
+        name="libtasn1",
+        source="libtasn1-6",
+        stale=("lib/ASN1.c",),
+        build=TASN1_BUILD,
+        tests=partial(lines_told, "make -k check", "tests"),
+        readers=(
+            Reader("src/asn1Parser", ("-c", "input"), files("*/*.asn", "examples/*.asn")),
+        ),
+    ),
+    Package(
+        name="libconfig",
+        source="libconfig",
+        stale=("lib/grammar.c", "lib/grammar.h"),
+        build=CONFIG_BUILD,
+        tests=partial(whole, [CONFIG_TESTS]),
+    ),
+    Package(
+        name="cproto",
+        source="cproto",
+        needs=("flex",),
+        build="./configure\nmake",
+        tests=partial(whole, [CPROTO_TESTS]),
+        readers=(
+            Reader("cproto", ("-f2",), files("*.c", "testing/*.c"), designs=(TABLES,)),
+        ),
+    ),
+    Package(
+        name="libcue",
+        source="libcue",
+        needs=("cmake", "flex"),
+        build=CUE_BUILD,
+        tests=partial(whole, [CUE_TESTS]),
+    ),
+    Package(
+        name="msitools",
+        source="msitools",
+        needs=("meson", "ninja", "bats"),
+        build=MSI_BUILD,
+        tests=partial(whole, [MSI_TESTS]),
     ),
     Package(
         name="byacc",

@@ -3,8 +3,10 @@
     bench-parsers [yacc=PATH] [ycc=PATH] [FILE..]
 
 For a calculator, the grammar of C of checks/data/times/c.y, queries 275, and each FILE: nanoseconds
-a token of each parser, by -O2, without a lexer and without actions, the least of many runs in turn;
-and the bytes of its tables. The tokens are a sentence of 30,000, drawn at random, as far as the
+a token of each parser, by -O2, without a lexer and without actions, the least of many runs in turn,
+also of those that `ycc` makes under each policy of default reductions, the slowest of which is set
+beside the faster of its peers, and of those with LAC that `ycc` and bison make; and the bytes of
+tables. The tokens are a sentence of 30,000, drawn at random, as far as the
 tables take it: precedences refuse some. So all parsers may find an error after the last.
 Files have no kept texts but empty ones. Needs bison, byacc, a C compiler (CC, or cc) and nm.
 """
@@ -23,8 +25,11 @@ from checks.times.grammars import queries
 
 TOKENS, SENTENCES, TURNS, LOOPS = 30_000, 5, 25, 9
 NONE = None, None
-HEADINGS = ["grammar", "ycc", "byacc", "bison", "of the faster", "bytes: ycc", "byacc", "bison"]
-HEADINGS += ["of bison's"]
+LAC, LAC_OF_BISON = "-Dparse.lac=full", "bison's LAC"
+POLICIES = "consistent", "sole", "most"
+PEERS = "byacc", "bison"
+HEADINGS = ["grammar", "ycc", *POLICIES, *PEERS, "slowest of the faster", "LAC", LAC_OF_BISON]
+HEADINGS += ["of it", "bytes: ycc", *PEERS, "of bison's"]
 
 CALCULATOR = """%token NUM
 %left '+' '-'
@@ -96,7 +101,9 @@ def run(*words, cwd=None):
 
 def generators(ycc):
     """How each generator is asked for a parser."""
-    return {"ycc": [ycc, "-o"], "byacc": ["byacc", "-o"], "bison": ["bison", "-o"]}
+    policies = {it: [ycc, f"-Dlr.default-reduction={it}", "-o"] for it in POLICIES}
+    plain = {"ycc": [ycc, "-o"], **policies, "byacc": ["byacc", "-o"], "bison": ["bison", "-o"]}
+    return {**plain, "LAC": [ycc, LAC, "-o"], LAC_OF_BISON: ["bison", LAC, "-o"]}
 
 
 class Machine:
@@ -155,7 +162,7 @@ def build(folder, ycc, text, tokens):
     file = f"{folder}/g.y"
     Path(file).write_text(f"{HEAD}{text}" + TAIL % (tokens, LOOPS))
     for name, words in generators(ycc).items():
-        run(*words, f"{folder}/{name}.c", file)
+        run(*words, f"{folder}/{name}.c", file, cwd=folder)
         run(compiler(), "-O2", "-w", f"{name}.c", "-o", name, cwd=folder)
 
 
@@ -180,11 +187,13 @@ def grammars_of(files):
 
 def row(name, made):
     """A line of the table of times."""
-    (ours, size), (byacc, b), (bison, c) = (made[it] for it in ("ycc", "byacc", "bison"))
-    times = [f"{it:.1f} ns" for it in (ours, byacc, bison)]
-    shares = [f"{ours / min(byacc, bison):.2f}", f"{size / c:.2f}"]
-    cells = [name, *times, shares[0], f"{size:,}", f"{b:,}", f"{c:,}", shares[1]]
-    return f"| {' | '.join(cells)} |"
+    times = {it: time for it, (time, _) in made.items()}
+    sizes = [made[it][1] for it in ("ycc", *PEERS)]
+    slowest = max(times[it] for it in ("ycc", *POLICIES)) / min(times[it] for it in PEERS)
+    cells = [name, *(f"{times[it]:.1f} ns" for it in ("ycc", *POLICIES, *PEERS)), f"{slowest:.2f}"]
+    cells += [f"{times[it]:.1f} ns" for it in ("LAC", LAC_OF_BISON)]
+    cells += [f"{times['LAC'] / times[LAC_OF_BISON]:.2f}", *(f"{it:,}" for it in sizes)]
+    return f"| {' | '.join(cells)} | {sizes[0] / sizes[-1]:.2f} |"
 
 
 def main(words):
