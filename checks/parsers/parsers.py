@@ -3,12 +3,12 @@
     parsers [--seed N] [--drawn N] [yacc=PATH] [ystep=PATH] [ycc=PATH] [ydebug=PATH]
 
 Over the grammar and tokens of every scenario and example, and over N grammars drawn at random (40),
-each parser, in byacc's order or in bison's, is compiled by the compiler (CC, or cc) with its
-sanitizers, as C90 without a warning, and makes the steps of `ystep`, line for line. Texts of
-actions, code and `%union` are left out, since those of scenarios are no C; values are numbers. The
-calculator of examples/calculator-c is built as C90, C99, C17 and C++17 by each compiler that is
-there, without a warning, with a trace and without, and answers as it should; a copy of it with
-another prefix is linked beside it. Parsers with messages say of each input of `ydebug errors` what
+each parser, in byacc's order or in bison's, or one into which its tokens are pushed, is compiled by
+the compiler (CC, or cc) with its sanitizers, as C90 without a warning, and makes the steps of
+`ystep`, line for line. Texts of actions, code and `%union` are left out, since those of scenarios
+are no C; values are numbers. The calculators of examples/calculator-c and examples/push are built
+as C90, C99, C17 and C++17 by each compiler that is there, without a warning, the first with a trace
+and without, and answer as they should; a copy of the first with another prefix is linked beside it. Parsers with messages say of each input of `ydebug errors` what
 `ydebug check --messages` says; parsers with LAC list at an error the tokens that `ydebug check`
 expects. The program of the tutorial answers as the tutorial says. The last line is
 `N passed, M failed`.
@@ -99,7 +99,7 @@ SPEAKS = b"""  printf ("m %s", what);
   exit (fflush (stdout) ? 3 : 0);
 """
 LONGEST = 1_000_000
-CALCULATOR = EXAMPLES / "calculator-c"
+CALCULATOR, PUSHED = EXAMPLES / "calculator-c", EXAMPLES / "push"
 # Compilers, and what each is asked to take the calculator for.
 LANGUAGES = {
     "gcc": ["-std=c90", "-std=c99", "-std=c17"],
@@ -155,7 +155,8 @@ def built(folder, grammar, ycc):
     file, parser, program = (f"{folder}/{it}" for it in ("grammar.y", "parser.c", "parser"))
     Path(file).write_bytes(HEAD + bare(grammar) + TAIL)
     bison = ["--bison", "-Dlr.default-reduction=consistent"]
-    order = bison if zlib.crc32(grammar) % 2 else []
+    orders = [[], bison, [], [*bison, "-Dapi.push-pull=both"]]
+    order = orders[zlib.crc32(grammar) % len(orders)]
     ran([ycc, *order, "-Wnone", "-o", parser, file], "ycc")
     ran([compiler(), *WAY, *CHECKED, "-o", program, parser], "the compiler")
     return program
@@ -204,7 +205,6 @@ def compare_said(grammar, programs, order):
         program = speaking(folder, told, programs["ycc"], order)
         for (table, names), text in zip(told.cases, told.texts, strict=True):
             wanted = "syntax error" if text.startswith("unexpected ") else text
-            wanted = wanted.replace("$end", "end of file") if order else wanted
             made = said_of(program, table, names)
             if made != wanted:
                 raise Differs(f"{names}\nydebug:\n{wanted}\nthe parser:\n{made}")
@@ -234,25 +234,26 @@ def compilers():
             yield from ((compiler, language) for language in languages)
 
 
-def sums_of(program):
+def sums_of(program, example=CALCULATOR):
     """What the calculator answers to the sums of the example."""
-    return ran([program], "the calculator", (CALCULATOR / "sums").read_bytes())
+    return ran([program], "the calculator", (example / "sums").read_bytes())
 
 
-def calculator(folder, ycc, options, compiler, language):
-    """The calculator, built in one way."""
+def calculator(folder, example, ycc, options, compiler, language):
+    """A calculator, built in one way."""
     kind = "cc" if "++" in language else "c"
     parser, program = f"{folder}/calc.{kind}", f"{folder}/calc"
-    ran([ycc, *options, "-o", parser, str(CALCULATOR / "calc.y")], "ycc")
+    ran([ycc, *options, "-o", parser, str(example / "calc.y")], "ycc")
     ran([compiler, language, *STRICT, "-O1", "-o", program, parser], f"{compiler} {language}")
     return program
 
 
-def compare_calculator(ycc, options, compiler, language):
-    """The calculator, built in one way, on sums whose answers are known."""
+def compare_calculator(example, ycc, options, compiler, language):
+    """A calculator, built in one way, on sums whose answers are known."""
     with tempfile.TemporaryDirectory() as folder:
-        answers = sums_of(calculator(folder, ycc, options, compiler, language))
-    if answers != (CALCULATOR / "answers").read_bytes():
+        program = calculator(folder, example, ycc, options, compiler, language)
+        answers = sums_of(program, example)
+    if answers != (example / "answers").read_bytes():
         raise Differs(f"{compiler} {language} {options}: {answers.decode(errors='replace')}")
 
 
@@ -297,7 +298,8 @@ def examples(programs):
             yield compare_said, (grammar, programs, order)
     for compiler, language in compilers():
         for options in ([], ["-t"], ["-l"]):
-            yield compare_calculator, (ycc, options, compiler, language)
+            yield compare_calculator, (CALCULATOR, ycc, options, compiler, language)
+        yield compare_calculator, (PUSHED, ycc, [], compiler, language)
     yield link_both, (ycc,)
 
 

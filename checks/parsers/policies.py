@@ -104,9 +104,11 @@ BYACC = {
     r"(e .*|l|= \d)": r"\1",
 }
 SAYS = "%define parse.error verbose\n"
+PUSHED = ["-Dparse.lac=full", "-Dapi.push-pull=both"]
 WAYS = [
     Way("most", ["--bison"], ["bison"], BISON),
     Way("most with LAC", ["--bison", "-Dparse.lac=full"], ["bison", "-Dparse.lac=full"], BISON),
+    Way("most with LAC, by pushes", ["--bison", *PUSHED], ["bison", *PUSHED], BISON),
     Way(
         "consistent with LAC",
         ["-Dlr.default-reduction=consistent", "-Dparse.lac=full"],

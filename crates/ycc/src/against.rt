@@ -1,8 +1,9 @@
 //! Variables that a word sets and the file sets otherwise.
 
 use crate::ending::{Ending, File};
+use crate::saying::refuse;
 use yparts::parts::Parts;
-use yparts::refusal::Refusal;
+use yparts::refusal::{Refusal, Refused};
 
 /// Refuses a file that gives another value to a variable that `-D` sets; one that `-F` sets has
 /// that value whatever the file says. Each variable of the words has its letter before it and a
@@ -21,7 +22,8 @@ pub fn refuse_others(rt: &HostRuntime, file: &File, parts: &Parts<'_>) -> Result
         };
         for defined in &parts.defined {
             if defined.name == name && defined.value != value {
-                return Err(file.refuse(rt, defined.at, Refusal::Redefined.text()));
+                let refused = Refused::new(Refusal::Redefined, defined.at, defined.name);
+                return Err(refuse(rt, file, refused));
             }
         }
     }

@@ -1,12 +1,11 @@
 //! How the program ends, and what it says then.
 
-use std::alloc::{AllocError, AllocFailed, AllocGlobal};
+use std::alloc::{AllocError, AllocFailed};
 use std::io::{self, Write};
 use yfiles::diagnostic::Diagnostic;
 use yfiles::output::Output;
-use yfiles::place::Place;
 use yfiles::steady::Steady;
-use yskeleton::Misuse;
+use yparts::foreign::Wished;
 
 /// How the program ends.
 #[derive(Clone, Copy, PartialEq, Eq)]
@@ -60,8 +59,8 @@ pub struct File {
     /// The variables that words set as if the file did, each with its letter before it and a zero
     /// after it.
     pub variables: Vec<u8>,
-    /// Whether words ask for the order and the names of bison.
-    pub is_bison: bool,
+    /// What words wish of it as if it said so: bison's order and names, and a language.
+    pub wished: Wished,
     /// Whether words ask for locations.
     pub locations: bool,
 }
@@ -91,55 +90,8 @@ pub fn outside(rt: &HostRuntime, what: &str, path: &str, error: &io::Error) -> E
     Ending::Outside
 }
 
-impl File {
-    /// What is wrong at a place, of which nothing is said yet.
-    fn at(&self, rt: &HostRuntime, at: usize) -> io::Result<Diagnostic> {
-        let (path, source) = (self.path.as_str(), self.bytes.as_slice());
-        Diagnostic::at(rt.alloc(), Place { path, source, at }, true)
-    }
-
-    /// Says why a file is refused that is at a place.
-    pub fn refuse(&self, rt: &HostRuntime, at: usize, why: &str) -> Ending {
-        let said = self.at(rt, at).and_then(|mut one| {
-            one.say(why)?;
-            Ok(one)
-        });
-        refuse_by(rt, said)
-    }
-
-    /// What is wrong with a value that an action names.
-    fn misuse(&self, rt: &HostRuntime, misuse: Misuse, at: usize) -> io::Result<Diagnostic> {
-        let mut one = self.at(rt, at)?;
-        match misuse {
-            Misuse::OutOfRange(number, seen) => write!(
-                one.message,
-                "${number} is out of range: {seen} symbols stand before this action"
-            )?,
-            Misuse::UntypedLeft => one.say(
-                "$$ has no tag, and other symbols have: give it one by %token or %type, or here as \
-                 $<tag>$",
-            )?,
-            Misuse::Untyped(number) => write!(
-                one.message,
-                "${number} has no tag, and other symbols have: give it one by %token or %type, or \
-                 here as $<tag>{number}"
-            )?,
-            Misuse::Unknown => one.say("no symbol before this action has this name")?,
-            Misuse::Ambiguous => one.say(
-                "several symbols have this name: give each its own in brackets, as in expr[left]",
-            )?,
-        }
-        Ok(one)
-    }
-
-    /// Says what is wrong with a value that an action names, and at which place.
-    pub fn misused(&self, rt: &HostRuntime, misuse: Misuse, at: usize) -> Ending {
-        refuse_by(rt, self.misuse(rt, misuse, at))
-    }
-}
-
 /// Says why a grammar file is refused.
-fn refuse_by(rt: &HostRuntime, said: io::Result<Diagnostic>) -> Ending {
+pub fn refuse_by(rt: &HostRuntime, said: io::Result<Diagnostic>) -> Ending {
     match said.and_then(|one| one.put(&mut Steady::new(rt.stderr(), true), "ycc")) {
         Ok(()) => Ending::Refused,
         Err(error) => Ending::from(error),

@@ -1,15 +1,44 @@
 //! Counterexamples for the conflicts of a grammar file.
 
+use crate::called::called_by;
 use crate::ending::{Ending, File};
+use std::env;
+use yexamples::examples::{Heading, put_examples};
+use yexamples::manner::{ASCII, Manner, UTF_8};
 use yfiles::diagnostic::Diagnostics;
 use yfiles::steady::Steady;
 use yfindings::kinds::Telling;
 use yfrontend::import::{Dialect, Foreign, Read, open_grammar};
 use yfrontend::notes::Source;
-use yreports::examples::{Heading, put_examples};
+use yskeleton::Skeleton;
+
+/// Whether a name of a place says that its texts are in UTF-8.
+fn names_utf_8(place: &[u8]) -> bool {
+    let (mut five, mut four) = (place.windows(5), place.windows(4));
+    five.any(|part| matches!(part, b"UTF-8" | b"utf-8"))
+        || four.any(|part| matches!(part, b"UTF8" | b"utf8"))
+}
+
+/// Whether texts are in UTF-8 where the program runs: the first of these variables that is set to
+/// something says it.
+fn is_utf_8(rt: &HostRuntime) -> bool {
+    for name in ["LC_ALL", "LC_CTYPE", "LANG"] {
+        if let Ok(value) = env::var(rt, name) {
+            if !value.is_empty() {
+                return names_utf_8(value.as_bytes());
+            }
+        }
+    }
+    false
+}
 
 /// Tells an example for each conflict of a file, which was read without a fault.
-pub fn tell_examples(rt: &HostRuntime, file: &File, telling: Telling) -> Result<(), Ending> {
+pub fn tell_examples(
+    rt: &HostRuntime,
+    file: &File,
+    skeleton: &Skeleton<'_>,
+    telling: Telling,
+) -> Result<(), Ending> {
     let (alloc, path) = (rt.alloc(), file.path.as_str());
     let source = Source {
         path,
@@ -33,7 +62,12 @@ pub fn tell_examples(rt: &HostRuntime, file: &File, telling: Telling) -> Result<
         severity,
         option,
     };
+    let names = called_by(alloc, skeleton, true)?;
+    let manner = Manner {
+        names: &names,
+        signs: if is_utf_8(rt) { UTF_8 } else { ASCII },
+    };
     let mut errors = Steady::new(rt.stderr(), true);
-    put_examples(alloc, &mut errors, heading, opened)?;
+    put_examples(alloc, &mut errors, (heading, manner), opened)?;
     Ok(errors.finish()?)
 }

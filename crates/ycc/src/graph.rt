@@ -9,7 +9,6 @@ use yexplain::reads::{
 use yfiles::output::Output;
 use yfindings::walk::{Walk, left_in};
 use ylalr::{ERROR, Item, token_count};
-use yparts::parts::Parts;
 use ysymbols::Sym;
 use ytables::{Action, Tables};
 
@@ -36,19 +35,6 @@ const OLD_HEAD: &str = " {
 /// The bits of a byte.
 const BITS: [usize; 8] = [1, 2, 4, 8, 16, 32, 64, 128];
 
-/// Literals by their names, and as files have them.
-const ESCAPES: [(&[u8], &[u8]); 9] = [
-    (b"'\\007'", b"'\\a'"),
-    (b"'\\010'", b"'\\b'"),
-    (b"'\\011'", b"'\\t'"),
-    (b"'\\012'", b"'\\n'"),
-    (b"'\\013'", b"'\\v'"),
-    (b"'\\014'", b"'\\f'"),
-    (b"'\\015'", b"'\\r'"),
-    (b"'\\047'", b"'\\''"),
-    (b"'\\134'", b"'\\\\'"),
-];
-
 /// An automaton that is drawn: its tables, the names of its symbols in the file, and which states
 /// reduce by default.
 #[derive(Clone, Copy)]
@@ -57,12 +43,10 @@ pub struct Graph<'a> {
     pub alloc: Global,
     /// The tables.
     pub tables: &'a Tables,
-    /// What the file says of symbols.
-    pub parts: &'a Parts<'a>,
+    /// What symbols are called.
+    pub names: &'a [Vec<u8>],
     /// The arrays of the parser.
     pub code: &'a Code,
-    /// Whether it is laid out as bison's, or as byacc's.
-    pub is_bison: bool,
 }
 
 /// Writes bytes within quotes.
@@ -75,32 +59,11 @@ fn put_quoted(out: &mut Output, bytes: &[u8]) {
     }
 }
 
-/// What stands in a file for a literal that has three digits as its name.
-fn escape_in(name: &[u8]) -> Option<&'static [u8]> {
-    for (digits, escape) in &ESCAPES {
-        if *digits == name {
-            return Some(*escape);
-        }
-    }
-    None
-}
-
 impl Graph<'_> {
-    /// Writes what a symbol is called in the file; that of an action within a body as bison calls
-    /// it.
+    /// Writes what a symbol is called.
     fn put_name(self, out: &mut Output, symbol: Sym) {
-        let name = name_of(grammar_of(self.tables), symbol);
-        match (self.parts.looks_of(symbol).label, name.strip_prefix(b"$$")) {
-            (Some([b'_', b'(', text @ .., b')']), _) => put_quoted(out, text.trim_ascii()),
-            (Some(label), _) => put_quoted(out, label),
-            (None, Some(number)) if self.is_bison => {
-                out.put("$@");
-                out.put_bytes(number);
-            }
-            (None, _) => match escape_in(name) {
-                Some(escape) => put_quoted(out, escape),
-                None => put_quoted(out, name),
-            },
+        if let Some(name) = self.names.get(symbol) {
+            put_quoted(out, name.as_slice());
         }
     }
 

@@ -5,14 +5,18 @@
 //! `persona` says who is called, `policy` which states reduce by default, and `help` lists options;
 //! `names` has the names of the files that are written; `reading` reads the grammar file, `against`
 //! looks at variables that words and file set, `messages` reads those for errors, `making` makes
-//! the texts and writes them, `graph` draws the automaton, `saying` has the words for what is
-//! found, `warnings` tells what is to be told of it, `examples` those of conflicts, and `ending`
+//! the texts and writes them, `called` has what symbols are called in the file, `graph` draws the
+//! automaton, `saying` has the words for what is found and `faults` those for misused values and
+//! refusals, `warnings` tells what is to be told of it, `examples` those of conflicts, and `ending`
 //! says how a run ends.
 #![tactic(auto)]
 
 mod against;
+mod called;
+mod classes;
 mod ending;
 mod examples;
+mod faults;
 mod graph;
 mod help;
 mod making;
@@ -32,47 +36,66 @@ use crate::ending::{Ending, File, outside, say};
 use crate::help::help_text;
 use crate::making::write_files;
 use crate::reader::{Wrong, asked_by};
-use crate::reading::read;
+use crate::reading::{RefusedWord, read};
 use crate::words::{Asked, Given, USAGE};
+use std::alloc::Global;
 use std::io::Write;
 use std::mem;
 use std::process::ExitCode;
+use yexplain::reads::Made;
 use yexplain::text::Escaped;
 use yfaults::opening::grammar_bytes;
 use yfiles::arguments::{Arguments, arguments_of};
 use yfiles::output::Output;
-use yparts::options::{Options, Purity};
+use yparts::foreign::Wished;
+use yparts::options::{Language, Options, Purity};
 
-/// Sets the variables that words have, each with a zero after it and a letter before it. Braces or
-/// quotes around a value are left out.
+/// The name of a variable that words set, and its value, of which braces or quotes around it are
+/// left out; and whether it stood in braces.
+fn named_in(variable: &[u8]) -> (&[u8], &[u8], bool) {
+    let equals = variable.iter().position(|byte| *byte == b'=');
+    let end = equals.unwrap_or(variable.len());
+    let name = variable.get(..end).unwrap_or(variable);
+    match variable.get(end.saturating_add(1)..).unwrap_or(&[]) {
+        [b'{', code @ .., b'}'] => (name, code, true),
+        [b'"', text @ .., b'"'] => (name, text, false),
+        value => (name, value, false),
+    }
+}
+
+/// Sets the variables that words have, each with a zero after it and a letter before it, and gives
+/// those that are refused; where none is, also those that a parser of this language doesn't have.
 fn define<'a>(
-    rt: &HostRuntime,
+    alloc: Global,
     variables: &'a [u8],
     options: &mut Options<'a>,
-) -> Result<(), Ending> {
-    for variable in variables.split(|byte| *byte == 0) {
-        let Some((by, variable)) = variable.split_first() else {
-            continue;
-        };
-        let equals = variable.iter().position(|byte| *byte == b'=');
-        let end = equals.unwrap_or(variable.len());
-        let name = variable.get(..end).unwrap_or(variable);
-        let value = variable.get(end.saturating_add(1)..).unwrap_or(&[]);
-        let (value, is_code) = match value {
-            [b'{', code @ .., b'}'] => (code, true),
-            [b'"', text @ .., b'"'] => (text, false),
-            _ => (value, false),
-        };
-        options.is_bison = true;
-        if let Err(refusal) = options.define(name, value, is_code) {
-            let mut out = Output::new(rt.alloc());
-            out.put_pieces(&[b"ycc: -", &[*by], b" ", variable]);
-            out.put(": ");
-            out.line(refusal.text());
-            return Err(say(rt, out, Ending::Refused));
+) -> Made<Vec<RefusedWord<'a>>> {
+    let mut refused = Vec::new(alloc);
+    for is_set in [false, true] {
+        if is_set && !refused.is_empty() {
+            break;
+        }
+        for word in variables.split(|byte| *byte == 0) {
+            let Some((by, variable)) = word.split_first() else {
+                continue;
+            };
+            let (name, value, is_code) = named_in(variable);
+            options.is_bison = true;
+            let refusal = match is_set {
+                true => options.refusal_of(name),
+                false => options.define(name, value, is_code).err(),
+            };
+            if let Some(refusal) = refusal {
+                let by = *by;
+                refused.push(RefusedWord {
+                    by,
+                    variable,
+                    refusal,
+                })?;
+            }
         }
     }
-    Ok(())
+    Ok(refused)
 }
 
 /// Does what words ask for with a grammar file; their wishes are taken as if the file had them.
@@ -84,8 +107,21 @@ fn generate(rt: &HostRuntime, given: Given<'_>, file: &File) -> Result<(), Endin
         options.purity = Purity::Yes;
     }
     options.has_names = options.has_names || given.names;
-    define(rt, file.variables.as_slice(), options)?;
+    let refused = define(rt.alloc(), file.variables.as_slice(), options)?;
+    found.refused_words = refused;
     write_files(rt, given, file, &found)
+}
+
+/// What words wish of a grammar file as if it said so. A parser in C++ is one of bison, and so is
+/// one for which words set variables.
+fn wished_of(given: Given<'_>, is_plain: bool) -> Wished {
+    let (language, skeleton) = (given.language, given.skeleton);
+    let is_cxx = skeleton.or(language) == Some(Language::Cxx);
+    Wished {
+        is_bison: given.bison || is_cxx || !is_plain,
+        language,
+        skeleton,
+    }
 }
 
 /// Does what words ask for.
@@ -98,7 +134,7 @@ fn obey(rt: &HostRuntime, given: Given<'_>, variables: Vec<u8>) -> Result<(), En
     let file = File {
         path: String::from_str(rt.alloc(), name)?,
         bytes,
-        is_bison: given.bison || !variables.is_empty(),
+        wished: wished_of(given, variables.is_empty()),
         locations: given.locations,
         variables,
     };

@@ -1,9 +1,11 @@
 //! The files that are made of a grammar file.
 
+use crate::called::called_by;
+use crate::classes::add_class;
 use crate::ending::{Ending, File, outside, say, tell};
 use crate::graph::Graph;
 use crate::messages::speech_of;
-use crate::names::{Names, names_of};
+use crate::names::{Names, Text, names_of};
 use crate::policy::policy_of;
 use crate::reading::Reading;
 use crate::warnings::tell_found;
@@ -14,15 +16,8 @@ use yfiles::output::Output;
 use yfiles::same::clash_of;
 use yfiles::writing::write_over;
 use yparts::options::{Header, Options};
-use yskeleton::{Mode, Numbering, Skeleton, Trouble, Wishes, default_rules, style_of};
+use yskeleton::{Mode, Numbering, Skeleton, Wishes, default_rules, style_of};
 use ytables::{Link, Tables};
-
-/// A text, and the path of its file.
-#[derive(Drop)]
-struct Text<'a> {
-    path: &'a str,
-    bytes: Vec<u8>,
-}
 
 /// The report on states, or else the table that `yacc` writes.
 fn text_of(alloc: Global, tables: &Tables, is_report: bool) -> Result<Vec<u8>, Ending> {
@@ -52,34 +47,46 @@ fn wishes_of(given: Given<'_>, options: &Options<'_>) -> Wishes {
     }
 }
 
-/// The texts that are wanted; where an action stands in the way of one, that is said.
-fn texts_of<'a>(
-    rt: &HostRuntime,
-    given: Given<'_>,
-    file: &File,
-    tables: &Tables,
+/// Adds a parser in C, and its header where it has one.
+fn add_plain<'a>(
+    alloc: Global,
     mut skeleton: Skeleton<'a>,
+    has_header: bool,
+    names: &'a Names,
+    defaults: &[usize],
+    texts: &mut Vec<Text<'a>>,
+) -> Result<(), Ending> {
+    let path = names.parser.as_str();
+    let bytes = skeleton.parser(alloc, defaults)?;
+    texts.push(Text { path, bytes })?;
+    if has_header {
+        let path = names.header.as_str();
+        skeleton.own_path = path;
+        let bytes = skeleton.header(alloc)?;
+        texts.push(Text { path, bytes })?;
+    }
+    Ok(())
+}
+
+/// The texts that are wanted.
+fn texts_of<'a>(
+    alloc: Global,
+    given: Given<'_>,
+    tables: &Tables,
+    skeleton: Skeleton<'a>,
     names: &'a Names,
 ) -> Result<Vec<Text<'a>>, Ending> {
-    let (alloc, parts) = (rt.alloc(), skeleton.parts);
-    let options = &parts.options;
+    let options = &skeleton.parts.options;
     let mut defaults = Vec::new(alloc);
     if skeleton.style.lists() {
         defaults = default_rules(alloc, tables)?;
     }
     let mut texts = Vec::new(alloc);
-    let (path, own) = (names.parser.as_str(), skeleton.parser(alloc, &defaults));
-    let bytes = match own {
-        Ok(bytes) => bytes,
-        Err(Trouble::Memory) => return Err(Ending::Memory),
-        Err(Trouble::Misused(misuse, at)) => return Err(file.misused(rt, misuse, at)),
-    };
-    texts.push(Text { path, bytes })?;
-    if given.define || options.header != Header::No {
-        let path = names.header.as_str();
-        skeleton.own_path = path;
-        let bytes = skeleton.header(alloc)?;
-        texts.push(Text { path, bytes })?;
+    let has_header = given.define || options.header != Header::No;
+    if options.is_cxx() {
+        add_class(alloc, skeleton, has_header, names, &defaults, &mut texts)?;
+    } else {
+        add_plain(alloc, skeleton, has_header, names, &defaults, &mut texts)?;
     }
     if given.verbose || options.verbose {
         let path = names.report.as_str();
@@ -97,20 +104,31 @@ fn texts_of<'a>(
 /// Adds the graphs that are wanted of a grammar file to texts.
 fn add_graphs<'a>(
     given: Given<'_>,
-    graph: Graph<'_>,
-    file: &File,
+    tables: &Tables,
+    skeleton: &Skeleton<'_>,
     names: &'a Names,
     texts: &mut Vec<Text<'a>>,
+    alloc: Global,
 ) -> Result<(), Ending> {
-    if given.graph.is_some() {
-        let path = names.graph.as_str();
-        let bytes = graph.text(&file.path)?;
-        texts.push(Text { path, bytes })?;
-    }
-    if given.old_graph {
-        let is_bison = false;
-        let path = names.old_graph.as_str();
-        let bytes = Graph { is_bison, ..graph }.old_text(&names.stem)?;
+    for is_bison in [true, false] {
+        let is_wanted = match is_bison {
+            true => given.graph.is_some(),
+            false => given.old_graph,
+        };
+        if !is_wanted {
+            continue;
+        }
+        let called = called_by(alloc, skeleton, is_bison)?;
+        let graph = Graph {
+            alloc,
+            tables,
+            names: &called,
+            code: skeleton.code,
+        };
+        let (path, bytes) = match is_bison {
+            true => (names.graph.as_str(), graph.text(skeleton.path)?),
+            false => (names.old_graph.as_str(), graph.old_text(&names.stem)?),
+        };
         texts.push(Text { path, bytes })?;
     }
     Ok(())
@@ -144,31 +162,38 @@ fn write_all(rt: &HostRuntime, given: Given<'_>, texts: &[Text<'_>]) -> Result<(
     Ok(())
 }
 
-/// Says what is wrong with values that actions name, where something is.
-fn refuse_misuses(rt: &HostRuntime, file: &File, skeleton: &Skeleton<'_>) -> Result<(), Ending> {
-    let mut ending = Ok(());
-    for misused in &skeleton.misuses(rt.alloc())? {
-        ending = Err(file.misused(rt, misused.misuse, misused.at));
-    }
-    ending
-}
-
-/// Makes all texts, and then writes their files.
-pub fn write_files(
+/// Says whose order and names there are, where that is asked for; messages in C++ are refused.
+fn begin(
     rt: &HostRuntime,
     given: Given<'_>,
     file: &File,
-    read: &Reading<'_>,
+    (is_cxx, is_bison): (bool, bool),
+) -> Result<(), Ending> {
+    if given.messages.is_some() && is_cxx {
+        tell(rt, &["ycc: --messages: a parser in C++ has none"]);
+        return Err(Ending::Refused);
+    }
+    if given.verbose {
+        let path = file.path.as_str();
+        let whose = if is_bison { "bison" } else { "byacc" };
+        tell(rt, &["ycc: ", path, ": order and names of ", whose]);
+    }
+    Ok(())
+}
+
+/// Makes all texts, and then writes their files.
+pub fn write_files<'x>(
+    rt: &HostRuntime,
+    given: Given<'_>,
+    file: &'x File,
+    read: &'x Reading<'_>,
 ) -> Result<(), Ending> {
     let (alloc, path) = (rt.alloc(), file.path.as_str());
     let (tables, parts) = (&read.tables, &read.parts);
     let wishes = wishes_of(given, &parts.options);
     let is_bison = wishes.mode == Mode::Bison;
+    begin(rt, given, file, (parts.options.is_cxx(), is_bison))?;
     let names = names_of(alloc, given, &parts.options, is_bison)?;
-    if given.verbose {
-        let whose = if is_bison { "bison" } else { "byacc" };
-        tell(rt, &["ycc: ", path, ": order and names of ", whose]);
-    }
     let style = style_of(alloc, parts, wishes, given.prefix)?;
     let code = code_of(alloc, tables, wishes.policy)?;
     let speech = speech_of(rt, given, tables, &style)?;
@@ -184,17 +209,9 @@ pub fn write_files(
         numbering: &numbering,
         speech: speech.as_ref(),
     };
-    refuse_misuses(rt, file, &skeleton)?;
-    let mut texts = texts_of(rt, given, file, tables, skeleton, &names)?;
-    let graph = Graph {
-        alloc,
-        tables,
-        parts,
-        code: &code,
-        is_bison: true,
-    };
-    add_graphs(given, graph, file, &names, &mut texts)?;
-    let is_told = tell_found(rt, given.kinds, file, read, is_bison)?;
+    let is_told = tell_found(rt, (given.kinds, is_bison), file, read, &skeleton)?;
+    let mut texts = texts_of(alloc, given, tables, skeleton, &names)?;
+    add_graphs(given, tables, &skeleton, &names, &mut texts, alloc)?;
     if !given.dry {
         write_all(rt, given, &texts)?;
     }

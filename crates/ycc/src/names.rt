@@ -4,7 +4,16 @@ use crate::words::Given;
 use std::alloc::Global;
 use std::str;
 use yexplain::reads::Made;
-use yparts::options::{Header, Options};
+use yparts::options::{Header, Language, Options};
+
+/// A text, and the path of its file.
+#[derive(Drop)]
+pub struct Text<'a> {
+    /// The path.
+    pub path: &'a str,
+    /// The text.
+    pub bytes: Vec<u8>,
+}
 
 /// The paths of the parser, its header, the report and the tables.
 #[derive(Drop)]
@@ -22,6 +31,14 @@ pub struct Names {
     /// The graph as of byacc, and what its name begins with.
     pub old_graph: String,
     pub stem: String,
+    /// How a parser in C++ includes its header.
+    pub header_name: String,
+    /// The file of its places, and how that is included; empty where it has none.
+    pub places: String,
+    pub places_name: String,
+    /// Files that bison writes for older grammars.
+    pub position: String,
+    pub stack: String,
 }
 
 /// Endings of grammar files, each with those of the parser and of its header.
@@ -69,6 +86,11 @@ fn names_by_parser(alloc: Global, path: &str) -> Made<Names> {
         graph: joined(alloc, report, ".gv")?,
         old_graph: joined(alloc, report, ".dot")?,
         stem: String::from_str(alloc, report)?,
+        header_name: String::new(alloc),
+        places: String::new(alloc),
+        places_name: String::new(alloc),
+        position: String::new(alloc),
+        stack: String::new(alloc),
     })
 }
 
@@ -89,10 +111,15 @@ fn word(text: Option<&[u8]>) -> Option<&str> {
     str::from_utf8(text?).ok()
 }
 
-/// The names where no file is named: those of bison, or of `yacc` where the program is called so.
+/// The names where no file is named: those of bison, or of `yacc` where the program is called so and
+/// the parser is in C.
 fn names_by_prefix(alloc: Global, given: Given<'_>, options: &Options<'_>) -> Made<Names> {
-    let (stem, named) = named_by(given.grammar);
-    let is_yacc = given.yacc || options.is_yacc || !given.bison;
+    let (stem, mut named) = named_by(given.grammar);
+    if named == PLAIN && options.language == Some(Language::Cxx) {
+        named = (".cc", ".hh");
+    }
+    let is_other = !given.bison && !options.is_cxx();
+    let is_yacc = given.yacc || options.is_yacc || is_other;
     let (own, endings) = if is_yacc { ("y", PLAIN) } else { (stem, named) };
     let prefix = word(options.file_prefix).or(given.files).unwrap_or(own);
     let table = joined(alloc, prefix, TAB)?;
@@ -104,6 +131,11 @@ fn names_by_prefix(alloc: Global, given: Given<'_>, options: &Options<'_>) -> Ma
         graph: joined(alloc, prefix, ".gv")?,
         old_graph: joined(alloc, prefix, ".dot")?,
         stem: String::from_str(alloc, prefix)?,
+        header_name: String::new(alloc),
+        places: String::new(alloc),
+        places_name: String::new(alloc),
+        position: String::new(alloc),
+        stack: String::new(alloc),
     })
 }
 
@@ -124,6 +156,41 @@ fn names_for(
     let mut names = names_by_prefix(alloc, given, options)?;
     names.parser = String::from_str(alloc, path)?;
     Ok(names)
+}
+
+/// A path as it is included.
+fn quoted(alloc: Global, path: &str) -> Made<String> {
+    let mut text = String::from_str(alloc, "\"")?;
+    text.push_str(path)?;
+    text.push_str("\"")?;
+    Ok(text)
+}
+
+/// Names what a parser in C++ includes, and what bison writes beside it in its folder.
+fn name_beside(
+    alloc: Global,
+    options: &Options<'_>,
+    has_header: bool,
+    names: &mut Names,
+) -> Made<()> {
+    let header = names.header.rsplit('/').next().unwrap_or("");
+    names.header_name = quoted(alloc, header)?;
+    let parser = names.parser.rsplit('/').next().unwrap_or("");
+    let folder = names.parser.strip_suffix(parser).unwrap_or("");
+    let folder = String::from_str(alloc, folder)?;
+    names.position = joined(alloc, &folder, "position.hh")?;
+    names.stack = joined(alloc, &folder, "stack.hh")?;
+    let file = match word(options.class.location_file) {
+        None if has_header => "location.hh",
+        None | Some("none") => return Ok(()),
+        Some(file) => file,
+    };
+    names.places = joined(alloc, &folder, file)?;
+    names.places_name = match word(options.class.location_include) {
+        Some(text) => String::from_str(alloc, text)?,
+        None => quoted(alloc, file)?,
+    };
+    Ok(())
 }
 
 /// The names of the files that words and a file ask for, for a parser of bison or of byacc. What
@@ -152,6 +219,10 @@ pub fn names_of(
     }
     if !table.is_empty() {
         names.table = String::from_str(alloc, table)?;
+    }
+    if options.is_cxx() {
+        let has_header = given.define || options.header != Header::No;
+        name_beside(alloc, options, has_header, &mut names)?;
     }
     Ok(names)
 }

@@ -309,7 +309,7 @@ pub const OPTIONS: [Known; COUNT] = [
         Whose::Bison,
         LANGUAGE,
         Ask::Language,
-        "The language, c",
+        "The language, c or c++",
     ),
     (
         None,
@@ -317,7 +317,7 @@ pub const OPTIONS: [Known; COUNT] = [
         Whose::All,
         LANGUAGE,
         Ask::Language,
-        "The language, c",
+        "The language, c or c++",
     ),
     (
         Some('S'),
@@ -325,7 +325,7 @@ pub const OPTIONS: [Known; COUNT] = [
         Whose::All,
         FILE,
         Ask::Skeleton,
-        "The skeleton, yacc.c",
+        "The skeleton, yacc.c or lalr1.cc",
     ),
     (
         Some('k'),

@@ -5,6 +5,8 @@ use crate::persona;
 use crate::words::{Asked, DATA_FOLDER, Given, LOCALE_FOLDER, VERSION, Wanted};
 use std::alloc::{AllocError, Global};
 use std::mem;
+use yparts::options::{language_of, skeleton_of};
+use yparts::refusal::Refusal;
 
 /// Why words are refused.
 #[derive(Clone, Copy, Drop)]
@@ -110,6 +112,19 @@ impl<'a> Reader<'a> {
         self.obey_further(option, value)
     }
 
+    /// Takes in a language or a skeleton, or gives why it is refused.
+    fn speak(&mut self, ask: Ask, value: &[u8]) -> Option<Refusal> {
+        let given = &mut self.wanted.given;
+        if ask == Ask::Language {
+            let language = language_of(value);
+            given.language = language.or(given.language);
+            return language.is_none().then_some(Refusal::Language);
+        }
+        let skeleton = skeleton_of(value);
+        given.skeleton = skeleton.or(given.skeleton);
+        skeleton.is_none().then_some(Refusal::Skeleton)
+    }
+
     /// Does what the other options ask for.
     fn obey_further(&mut self, option: Waiting<'a>, value: &'a str) -> Result<(), Wrong<'a>> {
         let ask = option.ask;
@@ -127,18 +142,15 @@ impl<'a> Reader<'a> {
                 Err(why) => return Err(Wrong::Word("-W", value, why)),
             },
             Ask::Features => {
-                for feature in value.split(',') {
-                    let is_dry = matches!(feature, "syntax-only" | "all" | "");
-                    self.wanted.given.dry |= is_dry;
-                }
+                let mut features = value.split(',');
+                let is_dry = features.any(|it| matches!(it, "syntax-only" | "all" | ""));
+                self.wanted.given.dry |= is_dry;
                 return Ok(());
             }
-            Ask::Language if value != "c" && value != "C" => {
-                "parsers are in C, which C++ takes too"
-            }
-            Ask::Skeleton if value != "yacc.c" => {
-                "there is one skeleton, yacc.c, that of a parser in C"
-            }
+            Ask::Language | Ask::Skeleton => match self.speak(ask, value.as_bytes()) {
+                None => return Ok(()),
+                Some(refusal) => refusal.text(),
+            },
             Ask::Refused(why) => why,
             Ask::Help | Ask::Version | Ask::DataFolder | Ask::LocaleFolder => {
                 self.text = self.text.or(Some(ask));

@@ -1,6 +1,7 @@
 //! A grammar file read: one that `yacc` takes as `yacc` reads it, any other by its import.
 
 use crate::ending::{Ending, File};
+use crate::saying::refuse;
 use std::alloc::Global;
 use yexplain::reads::grammar_of;
 use yfaults::opening::{Opened, Trouble as Unopened, add_trouble};
@@ -20,6 +21,17 @@ use yparts::{foreign, native};
 use yskeleton::is_of_bison;
 use ytables::{Tables, resolve};
 
+/// A variable that a word sets, and why it is refused.
+#[derive(Clone, Copy, Drop)]
+pub struct RefusedWord<'a> {
+    /// The letter of the word.
+    pub by: u8,
+    /// The variable, with its value.
+    pub variable: &'a [u8],
+    /// Why it is refused.
+    pub refusal: Refusal,
+}
+
 /// A grammar file read.
 #[derive(Drop)]
 pub struct Reading<'a> {
@@ -37,6 +49,8 @@ pub struct Reading<'a> {
     pub expected_shift: Option<Expected>,
     /// The reduce/reduce conflicts that it expects.
     pub expected_reduce: Option<Expected>,
+    /// The variables of words that are refused.
+    pub refused_words: Vec<RefusedWord<'a>>,
     /// Whether all was written that is said of it.
     pub is_told: bool,
 }
@@ -78,6 +92,9 @@ fn map<'a>(rt: &HostRuntime, bytes: &'a [u8]) -> Result<(Grammar, Vec<Mark<'a>>)
 fn look_at(parts: &mut Parts<'_>, file: &File) {
     let options = &mut parts.options;
     options.locations = options.locations || file.locations;
+    options.language = file.wished.language.or(options.language);
+    options.skeleton = file.wished.skeleton.or(options.skeleton);
+    options.is_bison = options.is_bison || options.is_cxx();
     let is_bison = is_of_bison(&*parts);
     parts.options.is_bison = is_bison;
 }
@@ -109,6 +126,7 @@ fn read_native<'a>(
         reduce_reduce: counts.reduce_reduce,
         expected_shift: None,
         expected_reduce: None,
+        refused_words: Vec::new(alloc),
         is_told: true,
     })
 }
@@ -127,20 +145,20 @@ fn only_own(alloc: Global, told: Diagnostics, is_bison: bool) -> Result<Diagnost
     }
 }
 
-/// Says why a file is refused for what it says of its parser, where it is.
-fn refuse_all(rt: &HostRuntime, file: &File, parts: &Parts<'_>) -> Result<(), Ending> {
-    let mut ended = Ok(());
-    for (refusal, at) in &parts.refused {
-        ended = Err(match file.refuse(rt, *at, refusal.text()) {
-            Ending::Refused if *refusal == Refusal::Later => Ending::Later,
-            ending => ending,
-        });
+/// Refuses a file for a later bison.
+fn refuse_later(rt: &HostRuntime, file: &File, parts: &Parts<'_>) -> Result<(), Ending> {
+    for refused in &parts.refused {
+        if refused.refusal == Refusal::Later {
+            return Err(match refuse(rt, file, *refused) {
+                Ending::Refused => Ending::Later,
+                ending => ending,
+            });
+        }
     }
-    ended
+    Ok(())
 }
 
-/// A file that an import made one of `yacc`. Where what it says of its parser is refused, that is
-/// said.
+/// A file that an import made one of `yacc`.
 fn read_imported<'a>(
     rt: &HostRuntime,
     file: &'a File,
@@ -153,12 +171,12 @@ fn read_imported<'a>(
         Err(status) => return Err(refused(rt, &told, status)),
     };
     let (grammar, imported) = (grammar_of(&foreign.opened.tables), &foreign.imported);
-    let mut parts = foreign::parts_of(alloc, &file.bytes, grammar, imported, file.is_bison)?;
+    let mut parts = foreign::parts_of(alloc, &file.bytes, grammar, imported, file.wished)?;
     look_at(&mut parts, file);
     let is_bison = parts.options.is_bison || !parts.refused.is_empty();
     let mut errors = Steady::new(rt.stderr(), true);
     only_own(alloc, told, is_bison)?.put(&mut errors, "ycc")?;
-    refuse_all(rt, file, &parts)?;
+    refuse_later(rt, file, &parts)?;
     let Foreign {
         opened,
         imported,
@@ -174,6 +192,7 @@ fn read_imported<'a>(
         reduce_reduce: counts.reduce_reduce,
         expected_shift,
         expected_reduce,
+        refused_words: Vec::new(alloc),
         is_told: errors.finish().is_ok(),
     })
 }
@@ -184,7 +203,7 @@ pub fn read<'a>(rt: &HostRuntime, file: &'a File) -> Result<Reading<'a>, Ending>
         Ok(mapped) => read_native(rt, file, mapped),
         Err(trouble) => {
             let mut told = Diagnostics::new(rt.alloc());
-            let dialect = match file.is_bison {
+            let dialect = match file.wished.is_bison {
                 true => Dialect::Bison,
                 false => Dialect::Seen,
             };

@@ -1,12 +1,15 @@
 //! What is said of what is found.
 
+use crate::ending::{Ending, File, refuse_by};
+use crate::faults::{help_with_name, help_with_value, put_misused, put_refused};
 use std::alloc::Global;
 use std::io::{self, Write};
 use yfiles::diagnostic::{Diagnostic, Severity};
 use yfiles::output::Output;
 use yfiles::place::Place;
-use yfindings::finding::{Finding, Idle, What};
+use yfindings::finding::{Finding, Idle, What, refusal};
 use yfindings::kinds::{Telling, name_of};
+use yparts::refusal::Refused;
 
 /// Writes a number of things, and a word for one and for several of them.
 fn put_count(out: &mut Output, count: usize, (one, several): (&str, &str), after: &str) {
@@ -188,6 +191,8 @@ fn put_what(out: &mut Output, what: What<'_>) {
         }
         What::Rule => out.put("rule useless in grammar"),
         What::Lost => out.put("rule useless in parser due to conflicts"),
+        What::Misused(misused) => put_misused(out, &misused),
+        What::Refused(refused) => put_refused(out, &refused),
         what => put_conflicts(out, what),
     }
 }
@@ -202,6 +207,35 @@ fn is_conflict(what: What<'_>) -> bool {
             | What::OtherReduces(..)
             | What::OtherInRule(..)
     )
+}
+
+/// Adds what helps with something that is found.
+fn help_with(
+    alloc: Global,
+    one: &mut Diagnostic,
+    (path, source): (&str, &[u8]),
+    finding: Finding<'_>,
+) -> io::Result<()> {
+    if let Some(at) = finding.before {
+        let mut text = Vec::new(alloc);
+        write!(
+            text,
+            "it was declared before at {}",
+            Place { path, source, at }.spot()
+        )?;
+        one.help(text)?;
+    }
+    match finding.what {
+        What::Misused(misused) => help_with_name(alloc, one, &misused),
+        What::Refused(refused) => help_with_value(alloc, one, &refused),
+        what if is_conflict(what) => {
+            let mut text = Output::new(alloc);
+            put_way(&mut text, path);
+            one.help(text.into_bytes()?)?;
+            Ok(())
+        }
+        _ => Ok(()),
+    }
 }
 
 /// What is said of something that is found in a file of this path and these bytes, with a text
@@ -228,21 +262,15 @@ pub fn diagnostic_of(
         out.put("]");
     }
     one.message = out.into_bytes()?;
-    if let Some(at) = finding.before {
-        let mut text = Vec::new(alloc);
-        write!(
-            text,
-            "it was declared before at {}",
-            Place { path, source, at }.spot()
-        )?;
-        one.help(text)?;
-    }
-    if is_conflict(finding.what) {
-        let mut text = Output::new(alloc);
-        put_way(&mut text, path);
-        one.help(text.into_bytes()?)?;
-    }
+    help_with(alloc, &mut one, (path, source), finding)?;
     Ok(one)
+}
+
+/// Says why a file is refused, and nothing else of it.
+pub fn refuse(rt: &HostRuntime, file: &File, refused: Refused<'_>) -> Ending {
+    let source = (file.path.as_str(), file.bytes.as_slice());
+    let said = diagnostic_of(rt.alloc(), source, refusal(refused), Telling::Error);
+    refuse_by(rt, said)
 }
 
 /// Says what shows conflicts.

@@ -2,7 +2,7 @@
 
 use crate::ending::{Ending, File};
 use crate::examples::tell_examples;
-use crate::reading::Reading;
+use crate::reading::{Reading, RefusedWord};
 use crate::saying::{diagnostic_of, put_counts};
 use std::alloc::Global;
 use std::mem;
@@ -13,7 +13,7 @@ use yfiles::steady::Steady;
 use yfindings::bodies::bodies_of;
 use yfindings::declared::Declared;
 use yfindings::expects::find_expected;
-use yfindings::finding::{Finding, Seen, What, about_all};
+use yfindings::finding::{Finding, Seen, What, about_all, misuse, refusal};
 use yfindings::kinds::{Kind, Kinds, Telling};
 use yfindings::levels::find_levels;
 use yfindings::useless::find_useless;
@@ -23,6 +23,7 @@ use yforeign::groups::groups_of;
 use yimport::import::{Imported, import};
 use yimport::refusal::Trouble;
 use yimport::symbols::Expected;
+use yskeleton::Skeleton;
 
 /// A number of conflicts that differs from the one that a file expects.
 fn other<'a>(expected: Option<Expected>, at: Option<usize>, what: What<'a>) -> Finding<'a> {
@@ -141,46 +142,95 @@ fn import_of(rt: &HostRuntime, file: &File) -> Result<Option<Imported>, Ending> 
     }
 }
 
-/// Tells what is found: whether there is an error, and whether all was written. Conflicts of
-/// byacc's files are shown as byacc does.
-fn tell(
-    rt: &HostRuntime,
-    file: &File,
+/// Says why a variable that a word sets is refused.
+fn put_refused_word(out: &mut Output, word: RefusedWord<'_>) {
+    out.put_pieces(&[b"ycc: -", &[word.by], b" ", word.variable]);
+    out.put(": ");
+    out.line(word.refusal.text());
+}
+
+/// What is told of a file, in its order.
+#[derive(Drop)]
+struct Teller<'a> {
+    alloc: Global,
+    file: &'a File,
     wanted: Wanted,
-    found: &[Finding<'_>],
-) -> Result<(bool, bool), Ending> {
-    let alloc = rt.alloc();
-    let (mut told, mut is_refused) = (Diagnostics::new(alloc), false);
-    let (mut shifts, mut reduces) = (0, 0);
-    for finding in found {
-        let telling = wanted.telling(*finding);
-        is_refused = is_refused || telling == Telling::Error;
+    told: Diagnostics,
+    /// Whether there is an error.
+    is_refused: bool,
+    /// The conflicts of one of byacc's files, which are shown as byacc does.
+    shifts: usize,
+    reduces: usize,
+}
+
+impl Teller<'_> {
+    /// Adds what is found.
+    fn add(&mut self, finding: Finding<'_>) -> Result<(), Ending> {
+        let telling = self.wanted.telling(finding);
+        self.is_refused = self.is_refused || telling == Telling::Error;
         match (finding.what, telling) {
             (_, Telling::Not) => {}
-            (What::Shifts(count), Telling::Warning) if !wanted.is_bison => shifts = count,
-            (What::Reduces(count), Telling::Warning) if !wanted.is_bison => reduces = count,
+            (What::Shifts(count), Telling::Warning) if !self.wanted.is_bison => self.shifts = count,
+            (What::Reduces(count), Telling::Warning) if !self.wanted.is_bison => {
+                self.reduces = count;
+            }
             _ => {
-                let source = (file.path.as_str(), file.bytes.as_slice());
-                told.add(diagnostic_of(alloc, source, *finding, telling)?)?;
+                let source = (self.file.path.as_str(), self.file.bytes.as_slice());
+                let one = diagnostic_of(self.alloc, source, finding, telling)?;
+                self.told.add(one)?;
             }
         }
+        Ok(())
     }
-    let mut errors = Steady::new(rt.stderr(), true);
-    told.put(&mut errors, "ycc")?;
-    let mut out = Output::new(alloc);
-    put_counts(&mut out, &file.path, (shifts, reduces));
-    out.finish(&mut errors)?;
-    Ok((is_refused, errors.finish().is_ok()))
+
+    /// Adds two lists in the order of the file; at one place the first goes before.
+    fn add_both(&mut self, found: &[Finding<'_>], faults: &[Finding<'_>]) -> Result<(), Ending> {
+        let mut next = 0usize;
+        for finding in found {
+            for fault in faults.get(next..).unwrap_or(&[]) {
+                if place_of(finding) <= place_of(fault) {
+                    break;
+                }
+                self.add(*fault)?;
+                next = next.saturating_add(1);
+            }
+            self.add(*finding)?;
+        }
+        for fault in faults.get(next..).unwrap_or(&[]) {
+            self.add(*fault)?;
+        }
+        Ok(())
+    }
+
+    /// Says all of it, which variables of words are refused, and the conflicts of byacc's files:
+    /// whether there is an error, and whether all was written.
+    fn finish(self, rt: &HostRuntime, read: &Reading<'_>) -> Result<(bool, bool), Ending> {
+        let mut errors = Steady::new(rt.stderr(), true);
+        self.told.put(&mut errors, "ycc")?;
+        let mut out = Output::new(self.alloc);
+        for word in &read.refused_words {
+            put_refused_word(&mut out, *word);
+        }
+        put_counts(&mut out, &self.file.path, (self.shifts, self.reduces));
+        out.finish(&mut errors)?;
+        let is_refused = self.is_refused || !read.refused_words.is_empty();
+        Ok((is_refused, errors.finish().is_ok()))
+    }
+}
+
+/// Where something stands, for what has no place before all others.
+fn place_of(finding: &Finding<'_>) -> usize {
+    finding.at.map_or(0, |at| at.saturating_add(1))
 }
 
 /// Finds what is to be shown of a file, and says it in the order of the file, conflicts at the end:
 /// whether all was written. Where there is an error among it, the file is refused.
 pub fn tell_found(
     rt: &HostRuntime,
-    kinds: Kinds,
+    (kinds, is_bison): (Kinds, bool),
     file: &File,
     read: &Reading<'_>,
-    is_bison: bool,
+    skeleton: &Skeleton<'_>,
 ) -> Result<bool, Ending> {
     let (alloc, wanted) = (rt.alloc(), Wanted { kinds, is_bison });
     let is_sought = is_bison || kinds.ask_for_more();
@@ -199,29 +249,58 @@ pub fn tell_found(
             tables: &read.tables,
             parts: &read.parts,
         };
-        return end(rt, file, read, wanted, find_all(seen, wanted)?);
+        return end(rt, file, read, skeleton, wanted, find_all(seen, wanted)?);
     }
-    end(rt, file, read, wanted, Vec::new(alloc))
+    end(rt, file, read, skeleton, wanted, Vec::new(alloc))
 }
 
-/// Tells what was found in a file, and its conflicts.
+/// What is wrong with values in code, and what no parser has, in the order of the file.
+fn faults_of<'a>(alloc: Global, skeleton: &Skeleton<'a>) -> Made<Vec<Finding<'a>>> {
+    let mut faults = Vec::new(alloc);
+    for misused in &skeleton.misuses(alloc)? {
+        faults.push(misuse(*misused))?;
+    }
+    for refused in &skeleton.parts.refused {
+        faults.push(refusal(*refused))?;
+    }
+    faults.sort_by_key(|fault| place_of(fault))?;
+    Ok(faults)
+}
+
+/// Tells what was found in a file, with what is wrong in it, and its conflicts.
 fn end(
     rt: &HostRuntime,
     file: &File,
     read: &Reading<'_>,
+    skeleton: &Skeleton<'_>,
     wanted: Wanted,
     mut found: Vec<Finding<'_>>,
 ) -> Result<bool, Ending> {
+    let alloc = rt.alloc();
     if !wanted.is_bison {
         found.retain(|finding| finding.kind.is_some());
     }
-    found.sort_by_key(|finding| finding.at.map_or(0, |at| at.saturating_add(1)))?;
-    read.find_conflicts(rt.alloc(), wanted.is_bison, &mut found)?;
-    let (is_refused, is_told) = tell(rt, file, wanted, &found)?;
+    found.sort_by_key(|finding| place_of(finding))?;
+    let mut teller = Teller {
+        alloc,
+        file,
+        wanted,
+        told: Diagnostics::new(alloc),
+        is_refused: false,
+        shifts: 0,
+        reduces: 0,
+    };
+    teller.add_both(&found, &faults_of(alloc, skeleton)?)?;
+    let mut conflicts = Vec::new(alloc);
+    read.find_conflicts(alloc, wanted.is_bison, &mut conflicts)?;
+    for conflict in &conflicts {
+        teller.add(*conflict)?;
+    }
+    let (is_refused, is_told) = teller.finish(rt, read)?;
     let telling = wanted.kinds.telling(Kind::Counterexamples, false);
     let has_conflicts = read.shift_reduce > 0 || read.reduce_reduce > 0;
     if has_conflicts && telling != Telling::Not {
-        tell_examples(rt, file, telling)?;
+        tell_examples(rt, file, skeleton, telling)?;
     }
     if is_refused || (has_conflicts && telling == Telling::Error) {
         Err(Ending::Refused)

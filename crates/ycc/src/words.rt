@@ -3,6 +3,7 @@
 use std::alloc::Global;
 use yexplain::reads::Made;
 use yfindings::kinds::Kinds;
+use yparts::options::Language;
 
 /// What is written to standard error where the words are refused.
 pub const USAGE: &[u8] = b"usage: ycc [-dlLtvyP] [-b prefix] [-o file] [-p prefix] [-H file] \
@@ -48,6 +49,10 @@ pub struct Given<'a> {
     pub yacc: bool,
     /// Whether the order and the names of bison are wanted.
     pub bison: bool,
+    /// The language, where it is given.
+    pub language: Option<Language>,
+    /// That of the skeleton, where that is given.
+    pub skeleton: Option<Language>,
     /// Whether the tokens that could come are listed as bison lists them.
     pub lists: bool,
     /// Whether each call has variables of its own.
@@ -86,6 +91,8 @@ impl Given<'_> {
             verbose: false,
             yacc: false,
             bison,
+            language: None,
+            skeleton: None,
             lists: false,
             pure: false,
             locations: false,

@@ -7,6 +7,8 @@ use yforeign::groups::Group;
 use yforeign::lexeme::Lexeme;
 use yimport::import::Imported;
 use yparts::parts::Parts;
+use yparts::refusal::Refused;
+use yskeleton::Misused;
 use ysymbols::{Grammar, Sym};
 use ytables::Tables;
 
@@ -109,6 +111,10 @@ pub enum What<'a> {
     Shifts(usize),
     /// So many reduce/reduce conflicts.
     Reduces(usize),
+    /// A value or place that code misuses.
+    Misused(Misused<'a>),
+    /// What no parser has.
+    Refused(Refused<'a>),
     /// Shift/reduce conflicts, found and expected.
     OtherShifts(usize, usize),
     /// Reduce/reduce conflicts, found and expected.
@@ -145,6 +151,26 @@ pub fn about_all<'a>(kind: Kind, what: What<'a>) -> Finding<'a> {
         at: None,
         what,
         before: None,
+    }
+}
+
+/// A misuse, which is an error or only worth a warning.
+pub fn misuse<'a>(misused: Misused<'a>) -> Finding<'a> {
+    let it = warning(Kind::Other, misused.at, What::Misused(misused));
+    if misused.misuse.is_harmless() {
+        it
+    } else {
+        Finding { kind: None, ..it }
+    }
+}
+
+/// The error that a file asks for what no parser has.
+pub fn refusal<'a>(refused: Refused<'a>) -> Finding<'a> {
+    Finding {
+        kind: None,
+        at: Some(refused.at),
+        what: What::Refused(refused),
+        before: refused.before,
     }
 }
 

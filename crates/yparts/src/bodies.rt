@@ -12,17 +12,34 @@ pub fn inner(text: &[u8]) -> &[u8] {
     inner.unwrap_or(&[]).trim_ascii()
 }
 
-impl Gather<'_, '_> {
-    /// Takes in a body, whose left side is the last one.
-    pub fn take_body(&mut self, lexemes: &[Lexeme]) -> Made<()> {
+impl<'a> Gather<'a, '_> {
+    /// Names the value at a place of a body by its symbol.
+    fn name_value(&mut self, symbol: &'a [u8], place: usize) -> Made<()> {
+        let name = symbol;
+        self.parts.names.push(Named {
+            name,
+            symbol,
+            place,
+        })?;
+        Ok(())
+    }
+
+    /// Takes in a body, whose left side is the last one, after a sign on a line.
+    pub fn take_body(&mut self, lexemes: &[Lexeme], sign: usize) -> Made<()> {
         let (source, names) = (self.source, self.parts.names.len());
         self.parts.bodies.push(names)?;
+        let mut line = sign;
+        for lexeme in lexemes.iter().rev() {
+            if !matches!(lexeme.kind, Kind::Reference | Kind::Colon | Kind::Semicolon) {
+                line = lexeme.span.line;
+            }
+        }
+        self.parts.lines.push(line)?;
         // how many symbols and actions came, and the tag of the action that comes
         let mut place: usize = 0;
         let mut tag: Option<&[u8]> = None;
         let mut is_prec = false;
-        let name = self.left;
-        self.parts.names.push(Named { name, place })?;
+        self.parts.names.push(self.left)?;
         for lexeme in lexemes {
             let name = lexeme.text(source);
             self.see_lexeme(lexeme, true);
@@ -35,7 +52,7 @@ impl Gather<'_, '_> {
                 }
                 Kind::Braced => {
                     place = place.saturating_add(1);
-                    self.parts.names.push(Named { name: b"", place })?;
+                    self.name_value(b"", place)?;
                     let piece = self.piece(lexeme);
                     self.actions.push(piece)?;
                     self.action_tags.push(tag)?;
@@ -45,7 +62,7 @@ impl Gather<'_, '_> {
                     self.see_symbol(lexeme, None, By::Name)?;
                     if !is_prec {
                         place = place.saturating_add(1);
-                        self.parts.names.push(Named { name, place })?;
+                        self.name_value(name, place)?;
                     }
                 }
                 _ => {}
@@ -60,12 +77,16 @@ impl Gather<'_, '_> {
         let Some((left, rest)) = lexemes.split_first() else {
             return Ok(());
         };
-        self.left = left.text(self.source);
-        if let Some(name) = rest.first() {
-            if name.kind == Kind::Reference {
-                self.left = inner(name.text(self.source));
-            }
-        }
-        self.take_body(rest)
+        let symbol = left.text(self.source);
+        let name = match rest.first() {
+            Some(name) if name.kind == Kind::Reference => inner(name.text(self.source)),
+            _ => symbol,
+        };
+        self.left = Named {
+            name,
+            symbol,
+            place: 0,
+        };
+        self.take_body(rest, left.span.line)
     }
 }

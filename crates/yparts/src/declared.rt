@@ -2,12 +2,12 @@
 
 use crate::bodies::inner;
 use crate::gather::Gather;
-use crate::options::{Errors, Header, Purity};
+use crate::options::{Errors, Header, Purity, language_of, skeleton_of};
 use crate::params::param_at;
 use crate::parts::{
     Block, By, Care, Deed, Defined, Mention, Numbered, Piece, Taker, Target, Whose,
 };
-use crate::refusal::Refusal;
+use crate::refusal::{Refusal, Refused};
 use crate::versions::required;
 use crate::words::{Word, target_of, word_of};
 use yexplain::reads::Made;
@@ -80,7 +80,10 @@ impl<'a> Gather<'a, '_> {
             Some(word) if is_word(word.text, "imports") => return Ok(()),
             Some(word) => match target_of(word.text) {
                 Some(target) => target,
-                None => return self.refuse(Refusal::Qualifier, word.at),
+                None => {
+                    let refused = Refused::new(Refusal::Qualifier, word.at, word.text);
+                    return self.refuse(refused);
+                }
             },
             None => Target::Code,
         };
@@ -101,7 +104,7 @@ impl<'a> Gather<'a, '_> {
                     break;
                 }
                 let Some((param, after)) = param_at(taker, rest) else {
-                    return self.refuse(Refusal::Parameter, piece.at);
+                    return self.refuse(Refused::new(Refusal::Parameter, piece.at, b""));
                 };
                 self.parts.params.push(param)?;
                 rest = after;
@@ -140,10 +143,24 @@ impl<'a> Gather<'a, '_> {
                     let by = By::Name;
                     self.parts.mentioned.push(Mention { symbol, by })?;
                 }
+                let mut before = None;
                 for care in &self.parts.cares {
                     if care.deed == deed && care.whose == whose {
-                        self.second = self.second.or(Some(piece.at));
+                        before = before.or(Some(care.piece.at));
                     }
+                }
+                if before.is_some() {
+                    let name = lexeme.text(self.source);
+                    let second = Refused::new(Refusal::SecondCare, piece.at, name);
+                    let value = match deed {
+                        Deed::Destroy => b"%destructor".as_slice(),
+                        Deed::Print => b"%printer".as_slice(),
+                    };
+                    self.second.push(Refused {
+                        value,
+                        before,
+                        ..second
+                    })?;
                 }
                 self.parts.cares.push(Care { deed, whose, piece })?;
             }
@@ -152,7 +169,7 @@ impl<'a> Gather<'a, '_> {
     }
 
     /// Takes in a variable with its value, which may have the same value before.
-    fn take_define(&mut self, rest: &[Lexeme]) -> Made<()> {
+    fn take_define(&mut self, at: usize, rest: &[Lexeme]) -> Made<()> {
         let Some((named, rest)) = rest.split_first() else {
             return Ok(());
         };
@@ -167,26 +184,57 @@ impl<'a> Gather<'a, '_> {
                 value = given.text(self.source);
             }
         }
-        let (name, at) = (named.text(self.source), named.span.from);
-        for before in &self.defined {
-            if before.name == name && before.value != value {
-                return self.refuse(Refusal::Redefined, at);
+        let name = named.text(self.source);
+        let mut before = None;
+        for defined in &self.defined {
+            if defined.name == name && defined.value != value {
+                before = Some(defined.at);
             }
+        }
+        if before.is_some() {
+            let again = Refused::new(Refusal::Redefined, at, name);
+            return self.refuse(Refused { before, ..again });
         }
         self.defined.push(Defined { name, value, at })?;
         match self.parts.options.define(name, value, is_code) {
             Ok(()) => Ok(()),
-            Err(refusal) => self.refuse(refusal, at),
+            Err(refusal) => {
+                let refused = Refused::new(refusal, at, name);
+                self.refuse(Refused { value, ..refused })
+            }
         }
     }
 
-    /// Refuses a language or a skeleton that isn't the one.
-    fn only(&mut self, rest: &[Lexeme], wanted: &str, refusal: Refusal) -> Made<()> {
-        match (self.string(rest), rest.first()) {
-            (Some(named), Some(lexeme)) if !is_word(named, wanted) => {
-                self.refuse(refusal, lexeme.span.from)
+    /// Takes in a language or a skeleton, of which there are two each.
+    fn take_language(&mut self, rest: &[Lexeme], is_skeleton: bool) -> Made<()> {
+        let (Some(named), Some(lexeme)) = (self.string(rest), rest.first()) else {
+            return Ok(());
+        };
+        let options = &mut self.parts.options;
+        let (found, refusal) = if is_skeleton {
+            (skeleton_of(named), Refusal::Skeleton)
+        } else {
+            (language_of(named), Refusal::Language)
+        };
+        match found {
+            None => self.refuse(Refused::new(refusal, lexeme.span.from, named))?,
+            found if is_skeleton => options.skeleton = found,
+            found => options.language = found,
+        }
+        Ok(())
+    }
+
+    /// Takes in the version that is required.
+    fn take_version(&mut self, rest: &[Lexeme]) -> Made<()> {
+        let (Some(version), Some(lexeme)) = (self.string(rest), rest.first()) else {
+            return Ok(());
+        };
+        match required(version) {
+            Ok(number) => {
+                self.parts.options.required = number;
+                Ok(())
             }
-            _ => Ok(()),
+            Err(refusal) => self.refuse(Refused::new(refusal, lexeme.span.from, version)),
         }
     }
 
@@ -217,8 +265,8 @@ impl<'a> Gather<'a, '_> {
     }
 
     /// Takes in a directive that stands for nothing in the grammar.
-    pub fn take_aside(&mut self, word: &[u8], rest: &[Lexeme]) -> Made<()> {
-        match word_of(word) {
+    pub fn take_aside(&mut self, word: &Lexeme, rest: &[Lexeme]) -> Made<()> {
+        match word_of(word.text(self.source)) {
             Word::Code => self.take_code(rest),
             Word::Initial => match self.first(rest, Kind::Braced) {
                 Some(piece) => self.take_text(Target::Initial, piece),
@@ -226,13 +274,10 @@ impl<'a> Gather<'a, '_> {
             },
             Word::Params(taker) => self.take_params(taker, rest),
             Word::Care(deed) => self.take_care(deed, rest),
-            Word::Define => self.take_define(rest),
-            Word::Language => self.only(rest, "c", Refusal::Language),
-            Word::Skeleton => self.only(rest, "yacc.c", Refusal::Skeleton),
-            Word::Require => match (self.string(rest).map(required), rest.first()) {
-                (Some(Err(refusal)), Some(lexeme)) => self.refuse(refusal, lexeme.span.from),
-                _ => Ok(()),
-            },
+            Word::Define => self.take_define(word.span.from, rest),
+            Word::Language => self.take_language(rest, false),
+            Word::Skeleton => self.take_language(rest, true),
+            Word::Require => self.take_version(rest),
             word => {
                 self.take_option(word, rest);
                 Ok(())

@@ -1,6 +1,6 @@
 //! The variables of `%define`.
 
-use crate::options::{Defaults, Errors, Options, Purity, Values};
+use crate::options::{Class, Defaults, Errors, Options, Pull, Purity, Values};
 use crate::refusal::Refusal;
 use yforeign::directive::is_word;
 
@@ -15,6 +15,15 @@ enum Variable {
     TokenPrefix,
     SymbolPrefix,
     Raw,
+    Namespace,
+    Class,
+    Constructors,
+    Asserts,
+    Moves,
+    LocationFile,
+    LocationInclude,
+    FileName,
+    Compares,
     Values,
     UnionName,
     LocationType,
@@ -28,17 +37,30 @@ enum Variable {
 }
 
 /// The variables that are known.
-const VARIABLES: [(&str, Variable); 23] = [
+const VARIABLES: [(&str, Variable); 36] = [
     ("api.pure", Variable::Pure),
     ("parse.error", Variable::Errors),
     ("parse.trace", Variable::Trace),
     ("parse.lac", Variable::Lac),
-    ("parse.assert", Variable::Idle),
+    ("parse.assert", Variable::Asserts),
+    ("assert", Variable::Asserts),
     ("locations", Variable::Locations),
     ("api.prefix", Variable::ApiPrefix),
     ("api.token.prefix", Variable::TokenPrefix),
     ("api.symbol.prefix", Variable::SymbolPrefix),
     ("api.token.raw", Variable::Raw),
+    ("api.token.constructor", Variable::Constructors),
+    ("lex_symbol", Variable::Constructors),
+    ("api.namespace", Variable::Namespace),
+    ("namespace", Variable::Namespace),
+    ("api.parser.class", Variable::Class),
+    ("parser_class_name", Variable::Class),
+    ("api.value.automove", Variable::Moves),
+    ("api.location.file", Variable::LocationFile),
+    ("api.location.include", Variable::LocationInclude),
+    ("api.filename.type", Variable::FileName),
+    ("filename_type", Variable::FileName),
+    ("define_location_comparison", Variable::Compares),
     ("api.value.type", Variable::Values),
     ("api.value.union.name", Variable::UnionName),
     ("api.location.type", Variable::LocationType),
@@ -59,7 +81,7 @@ fn switch(value: &[u8]) -> Result<bool, Refusal> {
     match value {
         b"" | b"true" => Ok(true),
         b"false" => Ok(false),
-        _ => Err(Refusal::Value),
+        _ => Err(Refusal::Boolean),
     }
 }
 
@@ -89,9 +111,19 @@ fn values(value: &[u8], is_code: bool) -> Result<Values<'_>, Refusal> {
     match value {
         _ if is_code => Ok(Values::Named(value)),
         b"union" => Ok(Values::Symbols),
-        b"variant" => Err(Refusal::Variant),
+        b"variant" => Ok(Values::Variant),
         b"union-directive" => Ok(Values::Declared),
         _ => Ok(Values::Named(value)),
+    }
+}
+
+/// Whether a parse fetches its tokens.
+fn pull(value: &[u8]) -> Result<Pull, Refusal> {
+    match value {
+        b"pull" => Ok(Pull::Only),
+        b"push" => Ok(Pull::Never),
+        b"both" => Ok(Pull::Also),
+        _ => Err(Refusal::Value),
     }
 }
 
@@ -105,12 +137,50 @@ fn defaults(value: &[u8]) -> Result<Defaults, Refusal> {
     }
 }
 
-/// Nothing, where a value is this one.
-fn only(value: &[u8], wanted: &str, refusal: Refusal) -> Result<(), Refusal> {
-    if value == wanted.as_bytes() {
+/// Nothing, where the tables are those of LALR(1).
+fn tables(value: &[u8]) -> Result<(), Refusal> {
+    match value {
+        b"lalr" => Ok(()),
+        b"lr(0)" | b"ielr" | b"canonical-lr" => Err(Refusal::Tables),
+        _ => Err(Refusal::Value),
+    }
+}
+
+/// Whether a parser looks ahead before an error.
+fn lac(value: &[u8]) -> Result<bool, Refusal> {
+    match value {
+        b"full" => Ok(true),
+        b"none" => Ok(false),
+        _ => Err(Refusal::Value),
+    }
+}
+
+/// The variable of a name.
+fn variable_of(name: &[u8]) -> Option<Variable> {
+    for (known, variable) in &VARIABLES {
+        if is_word(name, known) {
+            return Some(*variable);
+        }
+    }
+    None
+}
+
+impl<'a> Class<'a> {
+    /// Gives a variable that only C++ has its value.
+    fn define(&mut self, variable: Variable, value: &'a [u8]) -> Result<(), Refusal> {
+        match variable {
+            Variable::Namespace => self.namespace = Some(value),
+            Variable::Class => self.name = Some(value),
+            Variable::Constructors => self.constructors = switch(value)?,
+            Variable::Asserts => self.asserts = switch(value)?,
+            Variable::Moves => self.moves = switch(value)?,
+            Variable::LocationFile => self.location_file = Some(value),
+            Variable::LocationInclude => self.location_include = Some(value),
+            Variable::FileName => self.file_name = Some(value),
+            Variable::Compares => self.compares = switch(value)?,
+            _ => {}
+        }
         Ok(())
-    } else {
-        Err(refusal)
     }
 }
 
@@ -118,13 +188,7 @@ impl<'a> Options<'a> {
     /// Gives a variable a value, the text between its quotes or braces, and says whether it stood
     /// in braces.
     pub fn define(&mut self, name: &[u8], value: &'a [u8], is_code: bool) -> Result<(), Refusal> {
-        let mut found = None;
-        for (known, variable) in &VARIABLES {
-            if found.is_none() && is_word(name, known) {
-                found = Some(*variable);
-            }
-        }
-        match found.ok_or(Refusal::Variable)? {
+        match variable_of(name).ok_or(Refusal::Variable)? {
             Variable::Pure => self.purity = purity(value)?,
             Variable::Errors => self.errors = errors(value)?,
             Variable::Trace => self.trace = switch(value)?,
@@ -132,22 +196,60 @@ impl<'a> Options<'a> {
             Variable::ApiPrefix => self.api_prefix = Some(value),
             Variable::TokenPrefix => self.token_prefix = Some(value),
             Variable::SymbolPrefix => self.symbol_prefix = Some(value),
-            Variable::Raw => only(value, "false", Refusal::Numbers)?,
+            Variable::Raw => self.raw = switch(value)?,
             Variable::Values => self.values = values(value, is_code)?,
             Variable::UnionName => self.union_name = Some(value),
             Variable::LocationType => self.location_type = Some(value),
             Variable::Include => self.include = Some(value),
-            Variable::Tables => only(value, "lalr", Refusal::Tables)?,
-            Variable::Push => only(value, "pull", Refusal::Push)?,
-            Variable::Lac => {
-                self.lac = value == b"full".as_slice();
-                if !self.lac {
-                    only(value, "none", Refusal::Value)?;
-                }
-            }
+            Variable::Tables => tables(value)?,
+            Variable::Push => self.pull = pull(value)?,
+            Variable::Lac => self.lac = lac(value)?,
             Variable::Defaults => self.defaults = defaults(value)?,
             Variable::Idle => {}
+            variable => self.class.define(variable, value)?,
         }
         Ok(())
+    }
+
+    /// Why a parser of this language doesn't have a variable that is known, where that is so.
+    pub fn refusal_of(&self, name: &[u8]) -> Option<Refusal> {
+        let variable = variable_of(name)?;
+        if self.is_cxx() {
+            return match variable {
+                Variable::Pure | Variable::Push | Variable::Include => Some(Refusal::Variable),
+                Variable::UnionName => Some(Refusal::NamedUnion),
+                Variable::Constructors
+                    if self.class.constructors && self.values != Values::Variant => {
+                    Some(Refusal::Constructors)
+                }
+                _ => None,
+            };
+        }
+        match variable {
+            Variable::Values if self.values == Values::Variant => Some(Refusal::Variant),
+            Variable::Namespace
+            | Variable::Class
+            | Variable::Constructors
+            | Variable::Moves
+            | Variable::LocationFile
+            | Variable::LocationInclude
+            | Variable::FileName
+            | Variable::Compares => Some(Refusal::Variable),
+            _ => None,
+        }
+    }
+}
+
+/// The values that a variable of this name accepts, in bison's order, with a space between two;
+/// nothing where all are or bison doesn't list them.
+pub fn accepted(name: &[u8]) -> &'static str {
+    match variable_of(name) {
+        Some(Variable::Pure) => "false true  full",
+        Some(Variable::Errors) => "custom detailed simple verbose",
+        Some(Variable::Lac) => "full none",
+        Some(Variable::Tables) => "lr(0) lalr ielr canonical-lr",
+        Some(Variable::Push) => "pull push both",
+        Some(Variable::Defaults) => "most consistent accepting sole",
+        _ => "",
     }
 }

@@ -1,8 +1,9 @@
 //! The parts of a file of byacc or bison.
 
 use crate::gather::Gather;
-use crate::parts::{By, Parts, Piece, Target};
-use crate::refusal::Refusal;
+use crate::options::Language;
+use crate::parts::{By, Named, Parts, Piece, Target};
+use crate::refusal::{Refusal, Refused};
 use crate::words::is_only_bison;
 use std::alloc::Global;
 use std::mem;
@@ -17,10 +18,10 @@ use ysymbols::Grammar;
 impl<'a> Gather<'a, '_> {
     /// Takes in a declaration.
     fn take_declaration(&mut self, directive: Directive, lexemes: &[Lexeme]) -> Made<()> {
-        let Some((word, rest)) = lexemes.split_first() else {
+        let Some((first, rest)) = lexemes.split_first() else {
             return Ok(());
         };
-        let word = word.text(self.source);
+        let word = first.text(self.source);
         let options = &mut self.parts.options;
         options.is_bison = options.is_bison || is_only_bison(word);
         match directive {
@@ -28,7 +29,7 @@ impl<'a> Gather<'a, '_> {
             directive if directive.names_tokens() => self.take_list(rest, By::Token),
             directive if directive.is_level() => self.take_list(rest, By::Name),
             Directive::Union => self.take_union(rest),
-            _ => self.take_aside(word, rest),
+            _ => self.take_aside(first, rest),
         }
     }
 
@@ -45,7 +46,9 @@ impl<'a> Gather<'a, '_> {
             }
             Head::Code => self.take_block(first)?,
             Head::Left => self.take_rule(group.lexemes)?,
-            Head::Bar => self.take_body(group.lexemes.get(1..).unwrap_or(&[]))?,
+            Head::Bar => {
+                self.take_body(group.lexemes.get(1..).unwrap_or(&[]), first.span.line)?;
+            }
             Head::Mark if group.in_rules => {
                 let at = first.span.to;
                 let text = self.source.get(at..).unwrap_or(&[]);
@@ -81,22 +84,48 @@ impl<'a> Gather<'a, '_> {
         }
         for defined in &self.defined {
             if has_union && defined.name == b"api.value.type".as_slice() {
-                self.parts.refused.push((Refusal::Values, defined.at))?;
+                let refused = Refused::new(Refusal::Values, defined.at, defined.name);
+                self.parts.refused.push(refused)?;
             }
         }
-        match self.second {
-            Some(at) if self.parts.options.is_bison => self.refuse(Refusal::SecondCare, at),
-            _ => Ok(()),
+        if self.parts.options.raw {
+            for at in &self.literals {
+                let refused = Refused::new(Refusal::Literal, *at, b"");
+                self.parts.refused.push(refused)?;
+            }
         }
+        if self.parts.options.is_bison {
+            for second in &self.second {
+                self.parts.refused.push(*second)?;
+            }
+        }
+        Ok(())
     }
 
-    /// Takes in all groups.
-    fn take_all(&mut self, groups: &[Group<'_>]) -> Made<()> {
+    /// Refuses the variables that a parser of this language doesn't have.
+    fn refuse_variables(&mut self) -> Made<()> {
+        let options = self.parts.options;
+        for defined in &self.defined {
+            if let Some(refusal) = options.refusal_of(defined.name) {
+                let mut refused = Refused::new(refusal, defined.at, defined.name);
+                refused.value = defined.value;
+                self.parts.refused.push(refused)?;
+            }
+        }
+        Ok(())
+    }
+
+    /// Takes in all groups, where words may wish for another language.
+    fn take_all(&mut self, groups: &[Group<'_>], wished: Wished) -> Made<()> {
         for group in groups {
             self.take(group)?;
         }
+        let options = &mut self.parts.options;
+        options.language = wished.language.or(options.language);
+        options.skeleton = wished.skeleton.or(options.skeleton);
         self.refuse_doubles()?;
-        self.parts.refused.sort_by_key(|it| it.1)?;
+        self.refuse_variables()?;
+        self.parts.refused.sort_by_key(|it| it.at)?;
         self.label_all()?;
         let actions = mem::replace(&mut self.actions, Vec::new(self.alloc));
         self.parts.set_actions(self.grammar, &actions)?;
@@ -106,14 +135,24 @@ impl<'a> Gather<'a, '_> {
     }
 }
 
-/// The parts of a file that became a text of this grammar by this import; with `is_bison` it is
-/// one of bison, whatever it has.
+/// What words wish of a file as if it said so.
+#[derive(Clone, Copy)]
+pub struct Wished {
+    /// Whether it is one of bison, whatever it has.
+    pub is_bison: bool,
+    /// The language, in place of the file's.
+    pub language: Option<Language>,
+    /// That of the skeleton, in place of the file's.
+    pub skeleton: Option<Language>,
+}
+
+/// The parts of a file that became a text of this grammar by this import, where words wish so.
 pub fn parts_of<'a, 'b>(
     alloc: Global,
     source: &'a [u8],
     grammar: &'b Grammar,
     imported: &'b Imported,
-    is_bison: bool,
+    wished: Wished,
 ) -> Made<Parts<'a>> {
     let groups = groups_of(alloc, source, &imported.lexemes)?;
     let mut gather = Gather {
@@ -124,12 +163,17 @@ pub fn parts_of<'a, 'b>(
         parts: Parts::new(alloc, grammar.symbols())?,
         actions: Vec::new(alloc),
         action_tags: Vec::new(alloc),
-        left: source.get(..0).unwrap_or(&[]),
+        left: Named {
+            name: source.get(..0).unwrap_or(&[]),
+            symbol: source.get(..0).unwrap_or(&[]),
+            place: 0,
+        },
         defined: Vec::new(alloc),
-        second: None,
+        literals: Vec::new(alloc),
+        second: Vec::new(alloc),
     };
-    gather.parts.options.is_bison = is_bison;
-    gather.take_all(&groups)?;
+    gather.parts.options.is_bison = wished.is_bison;
+    gather.take_all(&groups, wished)?;
     let empty = Parts::new(alloc, 0)?;
     Ok(mem::replace(&mut gather.parts, empty))
 }

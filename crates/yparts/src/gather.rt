@@ -1,7 +1,7 @@
 //! The parts of a foreign file while they are gathered.
 
-use crate::parts::{By, Defined, Mention, Parts, Piece};
-use crate::refusal::Refusal;
+use crate::parts::{By, Defined, Mention, Named, Parts, Piece};
+use crate::refusal::Refused;
 use std::alloc::Global;
 use yexplain::reads::Made;
 use yforeign::directive::is_word;
@@ -28,18 +28,21 @@ pub struct Gather<'a, 'b> {
     /// The tag that each gives itself, which counts for inner ones.
     pub action_tags: Vec<Option<&'a [u8]>>,
     /// The name of the left side.
-    pub left: &'a [u8],
+    pub left: Named<'a>,
     /// The variables that the file defines.
     pub defined: Vec<Defined<'a>>,
-    /// Where code stands for values that had some.
-    pub second: Option<usize>,
+    /// Where literals stand.
+    pub literals: Vec<usize>,
+    /// Code for values that had some.
+    pub second: Vec<Refused<'a>>,
 }
 
 impl Drop for Gather<'_, '_> {
     // A call in each owner, which keeps their proofs short.
     fn drop(self) {
         let_go!(self: Gather {
-            alloc, source, grammar, imported, parts, actions, action_tags, left, defined, second
+            alloc, source, grammar, imported, parts, actions, action_tags, left, defined, literals,
+            second
         });
     }
 }
@@ -54,9 +57,9 @@ impl<'a, 'b> Gather<'a, 'b> {
         }
     }
 
-    /// Notes why no parser is made, at a place.
-    pub fn refuse(&mut self, refusal: Refusal, at: usize) -> Made<()> {
-        self.parts.refused.push((refusal, at))?;
+    /// Notes why no parser is made.
+    pub fn refuse(&mut self, refused: Refused<'a>) -> Made<()> {
+        self.parts.refused.push(refused)?;
         Ok(())
     }
 
@@ -116,6 +119,9 @@ impl<'a, 'b> Gather<'a, 'b> {
             if matches!(lexeme.kind, Kind::Literal | Kind::ByteLiteral) {
                 looks.label = Some(text);
             }
+        }
+        if matches!(lexeme.kind, Kind::Literal | Kind::ByteLiteral) {
+            self.literals.push(lexeme.span.from)?;
         }
         Ok(Some(symbol))
     }

@@ -53,7 +53,11 @@ impl<'a> Gather<'a, '_> {
     /// Takes in a name of the next value of a body.
     fn take_name(&mut self, name: &'a [u8]) -> Made<()> {
         let place = self.place;
-        self.parts.names.push(Named { name, place })?;
+        self.parts.names.push(Named {
+            name,
+            symbol: name,
+            place,
+        })?;
         self.place = place.saturating_add(1);
         Ok(())
     }
@@ -78,6 +82,8 @@ impl<'a> Gather<'a, '_> {
         }
         let names = self.parts.names.len();
         self.parts.bodies.push(names)?;
+        let line = self.spots.reach(mark.placed.at).0;
+        self.parts.lines.push(line)?;
         self.place = 0;
         self.take_name(self.left)
     }

@@ -31,8 +31,60 @@ pub enum Values<'a> {
     Declared,
     /// A union with a member for each symbol that has a tag; the tag is its type.
     Symbols,
+    /// The type of each symbol by itself, which its tag is.
+    Variant,
     /// A type by its name.
     Named(&'a [u8]),
+}
+
+/// The language of a parser.
+#[derive(Clone, Copy, PartialEq, Eq)]
+pub enum Language {
+    /// C, which C++ takes too.
+    C,
+    /// C++, with a class.
+    Cxx,
+}
+
+/// The language of a name, in whatever case it is spelled.
+pub fn language_of(name: &[u8]) -> Option<Language> {
+    match name {
+        b"c" | b"C" => Some(Language::C),
+        b"c++" | b"C++" => Some(Language::Cxx),
+        _ => None,
+    }
+}
+
+/// The language of a skeleton.
+pub fn skeleton_of(name: &[u8]) -> Option<Language> {
+    match name {
+        b"yacc.c" => Some(Language::C),
+        b"lalr1.cc" => Some(Language::Cxx),
+        _ => None,
+    }
+}
+
+/// What only a parser in C++ has.
+#[derive(Clone, Copy)]
+pub struct Class<'a> {
+    /// `api.namespace`.
+    pub namespace: Option<&'a [u8]>,
+    /// `api.parser.class`.
+    pub name: Option<&'a [u8]>,
+    /// Whether tokens are made by functions, `api.token.constructor`.
+    pub constructors: bool,
+    /// Whether values are checked while it runs, `parse.assert`.
+    pub asserts: bool,
+    /// Whether actions move what they name, `api.value.automove`.
+    pub moves: bool,
+    /// The file of places, `api.location.file`: `none` for none.
+    pub location_file: Option<&'a [u8]>,
+    /// How it is included, `api.location.include`.
+    pub location_include: Option<&'a [u8]>,
+    /// The type of the names of files in places, `api.filename.type`.
+    pub file_name: Option<&'a [u8]>,
+    /// Whether places can be compared, `define_location_comparison`.
+    pub compares: bool,
 }
 
 /// Whether a header is wished for.
@@ -59,11 +111,30 @@ pub enum Defaults {
     Consistent,
 }
 
+/// Whether a parse fetches its tokens.
+#[derive(Clone, Copy, PartialEq, Eq)]
+pub enum Pull {
+    /// It does.
+    Only,
+    /// They are pushed into it.
+    Never,
+    /// Either.
+    Also,
+}
+
 /// What a file wishes of its parser as a whole.
 #[derive(Clone, Copy)]
 pub struct Options<'a> {
     /// Whether it has a directive that only bison has.
     pub is_bison: bool,
+    /// `%language`, where it is given.
+    pub language: Option<Language>,
+    /// The language of `%skeleton`, where it is given.
+    pub skeleton: Option<Language>,
+    /// What only a parser in C++ has.
+    pub class: Class<'a>,
+    /// The version of bison that it requires, as 30802.
+    pub required: usize,
     /// Whether the names of files are those of `yacc`.
     pub is_yacc: bool,
     /// `api.pure`.
@@ -106,6 +177,10 @@ pub struct Options<'a> {
     pub lac: bool,
     /// `lr.default-reduction`.
     pub defaults: Defaults,
+    /// `api.push-pull`.
+    pub pull: Pull,
+    /// `api.token.raw`: whether the numbers of tokens are those of symbols.
+    pub raw: bool,
     /// Whether the file is one that `yacc` reads as it is.
     pub is_profile: bool,
 }
@@ -115,6 +190,20 @@ impl Options<'_> {
     pub fn none<'a>() -> Options<'a> {
         Options {
             is_bison: false,
+            language: None,
+            skeleton: None,
+            class: Class {
+                namespace: None,
+                name: None,
+                constructors: false,
+                asserts: false,
+                moves: false,
+                location_file: None,
+                location_include: None,
+                file_name: None,
+                compares: false,
+            },
+            required: 0,
             is_yacc: false,
             purity: Purity::No,
             locations: false,
@@ -136,7 +225,14 @@ impl Options<'_> {
             include: None,
             lac: false,
             defaults: Defaults::Unsaid,
+            pull: Pull::Only,
+            raw: false,
             is_profile: false,
         }
+    }
+
+    /// Whether the parser is in C++: by its skeleton, or else by its language.
+    pub fn is_cxx(&self) -> bool {
+        self.skeleton.or(self.language) == Some(Language::Cxx)
     }
 }

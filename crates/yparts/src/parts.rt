@@ -1,7 +1,7 @@
 //! The parts of a file that go into its parser.
 
 use crate::options::Options;
-use crate::refusal::Refusal;
+use crate::refusal::Refused;
 use std::alloc::Global;
 use yexplain::lines::is_inner;
 use yexplain::reads::Made;
@@ -73,6 +73,8 @@ pub struct Action<'a> {
 pub struct Named<'a> {
     /// The name: one in brackets, or else that of the symbol.
     pub name: &'a [u8],
+    /// The name of the symbol.
+    pub symbol: &'a [u8],
     /// Which symbol of the body it is, counted from 1; 0 is the left side.
     pub place: usize,
 }
@@ -187,6 +189,8 @@ pub struct Parts<'a> {
     pub names: Vec<Named<'a>>,
     /// Where the names of each body begin.
     pub bodies: Vec<usize>,
+    /// The line that each body begins on.
+    pub lines: Vec<usize>,
     /// Code for values.
     pub cares: Vec<Care<'a>>,
     /// The parameters, in their order.
@@ -202,7 +206,7 @@ pub struct Parts<'a> {
     /// Wishes.
     pub options: Options<'a>,
     /// Why no parser is made, each with its place.
-    pub refused: Vec<(Refusal, usize)>,
+    pub refused: Vec<Refused<'a>>,
 }
 
 /// What is known of a symbol of which the file says nothing.
@@ -222,6 +226,7 @@ impl<'a> Parts<'a> {
             actions: Vec::new(alloc),
             names: Vec::new(alloc),
             bodies: Vec::new(alloc),
+            lines: Vec::new(alloc),
             cares: Vec::new(alloc),
             params: Vec::new(alloc),
             numbers: Vec::new(alloc),

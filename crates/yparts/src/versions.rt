@@ -21,9 +21,9 @@ fn number_of(digits: &[u8]) -> Option<usize> {
     Some(number)
 }
 
-/// Refuses what requires a later bison. A version has two numbers or three, those after the first
-/// below 100; what follows a third dot is left out.
-pub fn required(text: &[u8]) -> Result<(), Refusal> {
+/// The version that a text requires, as 30802; a later one than that is refused. A version has two
+/// numbers or three, those after the first below 100; what follows a third dot is left out.
+pub fn required(text: &[u8]) -> Result<usize, Refusal> {
     let mut version: usize = 0;
     let mut count: usize = 0;
     for digits in text.split(|b| *b == b'.') {
@@ -45,6 +45,6 @@ pub fn required(text: &[u8]) -> Result<(), Refusal> {
     } else if version > OWN {
         Err(Refusal::Later)
     } else {
-        Ok(())
+        Ok(version)
     }
 }

@@ -1,81 +1,81 @@
-//! Actions as C: the values and places that they name are those of the stack.
+//! Actions as C or C++: the values and places that they name are those of the stack.
 
-use crate::references::{Dialect, Piece, Reference, piece_at};
-use crate::scene::{Member, Misuse, Scene};
-use std::alloc::AllocError;
+use crate::references::{Dialect, Piece, Reference, Whose, piece_at};
+use crate::scene::{Member, Scene};
 use yfiles::output::Output;
+use yparts::options::Values;
 use yparts::parts;
 
-/// What ends the writing of a parser.
-#[derive(Clone, Copy, Drop)]
-pub enum Trouble {
-    /// The value or place at this place of the file is misused.
-    Misused(Misuse, usize),
-    /// Memory ran out.
-    Memory,
-}
-
-impl From<AllocError> for Trouble {
-    fn from(_refused: AllocError) -> Trouble {
-        Trouble::Memory
-    }
-}
-
-/// Writes a value that an action names.
-fn put_value<'a>(out: &mut Output, scene: &Scene<'a>, value: Reference<'a>) -> Result<(), Misuse> {
-    let (place, member) = scene.locate(value)?;
+/// Writes a value that an action names; nothing of one that is misused. In C++ a symbol has it, and
+/// it may be of several types.
+fn put_value<'a>(out: &mut Output, scene: &Scene<'a>, value: Reference<'a>) {
+    let Ok((place, member)) = scene.locate(value) else {
+        return;
+    };
+    let options = &scene.style.options;
     if let Some(place) = place {
-        out.put("(yyvsp[");
+        out.put(if options.class.moves {
+            "YY_MOVE (yyvsp["
+        } else {
+            "(yyvsp["
+        });
         out.signed(place);
-        out.put("]");
+        out.put(if options.is_cxx() { "].value" } else { "]" });
     } else {
         out.put_pieces(&[b"(", scene.value.as_bytes()]);
     }
     match member {
         Member::Whole => out.put(")"),
+        Member::Tag(tag) if options.values == Values::Variant => {
+            out.put_pieces(&[b".as < ", tag, b" > ())"]);
+        }
         Member::Tag(tag) => out.put_pieces(&[b".", tag, b")"]),
         Member::Symbol(prefix, name) => out.put_pieces(&[b".", prefix, name, b")"]),
     }
-    Ok(())
 }
 
-/// Writes an action as C.
+impl<'a> Scene<'a> {
+    /// Whether what code names is there for it: outside of rules only the left side is.
+    pub fn has(&self, piece: Piece<'a>) -> bool {
+        self.is_strict
+            || match piece {
+                Piece::Text => true,
+                Piece::Value(value) => value.whose == Whose::Left,
+                Piece::Place(whose) => whose == Whose::Left,
+            }
+    }
+}
+
+/// Writes an action as C, in which nothing is misused.
 pub fn put_action<'a>(
     out: &mut Output,
     text: parts::Piece<'a>,
     scene: &Scene<'a>,
     dialect: Dialect,
-) -> Result<(), Trouble> {
+) {
     let mut rest = text.text;
     for _ in text.text {
         let Some((piece, front, after)) = piece_at(rest, dialect) else {
             break;
         };
-        let written = match piece {
-            Piece::Text => {
-                out.put_bytes(front);
-                Ok(())
-            }
+        match piece {
+            Piece::Text => out.put_bytes(front),
+            piece if !scene.has(piece) => out.put_bytes(front),
             Piece::Value(value) => put_value(out, scene, value),
             Piece::Place(whose) => match scene.place(whose) {
                 Ok(Some(place)) => {
-                    out.put("(yylsp[");
+                    let (front, end) = match scene.style.options.is_cxx() {
+                        true => ("(yyvsp[", "].location)"),
+                        false => ("(yylsp[", "])"),
+                    };
+                    out.put(front);
                     out.signed(place);
-                    out.put("])");
-                    Ok(())
+                    out.put(end);
                 }
-                Ok(None) => {
-                    out.put_pieces(&[b"(", scene.location.as_bytes(), b")"]);
-                    Ok(())
-                }
-                Err(misuse) => Err(misuse),
+                Ok(None) => out.put_pieces(&[b"(", scene.location.as_bytes(), b")"]),
+                Err(_) => {}
             },
-        };
-        if let Err(misuse) = written {
-            let before = text.text.len().saturating_sub(rest.len());
-            return Err(Trouble::Misused(misuse, text.at.saturating_add(before)));
         }
         rest = after;
     }
-    Ok(())
 }

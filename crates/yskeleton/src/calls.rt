@@ -22,6 +22,24 @@ struct List {
     is_empty: bool,
 }
 
+/// Writes a declaration in one line and without its comments.
+pub fn put_flat(out: &mut Output, declaration: &[u8]) {
+    let mut rest = declaration;
+    // each piece has a byte at least
+    for _ in declaration {
+        if rest.is_empty() {
+            break;
+        }
+        let (piece, after) = rest.split_at(piece_length(rest).min(rest.len()));
+        if is_comment(piece) || piece == b"\n".as_slice() {
+            out.put(" ");
+        } else {
+            out.put_bytes(piece);
+        }
+        rest = after;
+    }
+}
+
 impl List {
     /// Writes an item, which is declared by one text and named by another, in one line and without
     /// its comments.
@@ -34,20 +52,7 @@ impl List {
             out.put(", ");
         }
         self.is_empty = false;
-        let mut rest = item;
-        // each piece has a byte at least
-        for _ in item {
-            if rest.is_empty() {
-                break;
-            }
-            let (piece, after) = rest.split_at(piece_length(rest).min(rest.len()));
-            if is_comment(piece) || piece == b"\n".as_slice() {
-                out.put(" ");
-            } else {
-                out.put_bytes(piece);
-            }
-            rest = after;
-        }
+        put_flat(out, item);
     }
 
     /// Writes the parameters of a function, which are all but those of the other one alone.
@@ -61,6 +66,15 @@ impl List {
 }
 
 impl Skeleton<'_> {
+    /// Writes the parameters of `yyparse` as they come after others.
+    pub fn put_more(&self, out: &mut Output) {
+        let mut list = List {
+            shown: Shown::Declared,
+            is_empty: false,
+        };
+        list.put_params(out, &self.parts.params, Taker::Lex);
+    }
+
     /// Writes the parameters of `yyparse`, declared.
     pub fn put_parse(&self, out: &mut Output) {
         let mut list = List {
@@ -143,8 +157,16 @@ impl Skeleton<'_> {
     /// come after others.
     pub fn put_calls(&self, out: &mut Output) {
         if self.style.is_bison() {
-            out.put("\n#define YYPARSE_DECL() yyparse (");
-            self.put_parse(out);
+            if self.style.is_pushed() {
+                out.put("\n#define YYPARSE_DECL() yypush_parse (yypstate *yyps");
+                self.put_pushed(out);
+                out.put(")\n#define YYPULL_DECL() yyparse (");
+            } else {
+                out.put("\n#define YYPARSE_DECL() yyparse (");
+            }
+            if self.style.is_pulled() {
+                self.put_parse(out);
+            }
             out.put(")\n#define YYLEX yylex (");
             self.put_lex(out, Shown::Named, false);
             out.put(")\n#define YYERROR_CALL(msg) yyerror (");
@@ -153,17 +175,14 @@ impl Skeleton<'_> {
         } else {
             self.put_byacc(out);
         }
-        for (front, shown) in [
-            ("#define YYMORE_DECL ", Shown::Declared),
-            ("\n#define YYMORE ", Shown::Named),
-        ] {
-            let mut list = List {
-                shown,
-                is_empty: false,
-            };
-            out.put(front);
-            list.put_params(out, &self.parts.params, Taker::Lex);
-        }
+        out.put("#define YYMORE_DECL ");
+        self.put_more(out);
+        out.put("\n#define YYMORE ");
+        let mut list = List {
+            shown: Shown::Named,
+            is_empty: false,
+        };
+        list.put_params(out, &self.parts.params, Taker::Lex);
         out.put("\n");
     }
 }

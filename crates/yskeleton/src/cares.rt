@@ -1,6 +1,5 @@
 //! What values need that are thrown away, and how values are shown.
 
-use crate::actions::Trouble;
 use crate::errors::SWITCH;
 use crate::references::{Piece, piece_at};
 use crate::skeleton::Skeleton;
@@ -30,15 +29,19 @@ impl<'a> Skeleton<'a> {
     }
 
     /// Whether code for all values is meant for a symbol: one that the file names, or the value of
-    /// an inner action, which bison leaves out where it is neither set by it nor read in its body.
+    /// an inner action, where bison has one.
     fn has_value(&self, symbol: Sym) -> bool {
         let is_bison = self.style.is_bison();
         if symbol == END || symbol == ERROR {
             return symbol == END && is_bison && !self.parts.ends.is_empty();
         }
-        if !is_bison || !name_of(self.grammar, symbol).starts_with(b"$") {
-            return true;
-        }
+        !is_bison
+            || !name_of(self.grammar, symbol).starts_with(b"$")
+            || self.has_inner_value(symbol)
+    }
+
+    /// Whether the symbol of an inner action has a value for bison: set by it, or read in its body.
+    pub fn has_inner_value(&self, symbol: Sym) -> bool {
         let mut own = None;
         for action in &self.parts.actions {
             if left_of(self.grammar, action.rule) == Some(symbol) {
@@ -75,20 +78,25 @@ impl<'a> Skeleton<'a> {
         best
     }
 
-    /// Writes code by the kinds of symbols, with a case for each whose values need something.
-    pub fn put_cares(&self, out: &mut Output, deed: Deed) -> Result<(), Trouble> {
+    /// Writes code by the kinds of symbols, with a case for each whose values need something. In
+    /// C++ the parser has the parameters, and each value a symbol.
+    pub fn put_cares(&self, out: &mut Output, deed: Deed) {
+        let is_cxx = self.style.options.is_cxx();
         for param in &self.parts.params {
-            if param.taker != Taker::Lex {
+            if param.taker != Taker::Lex && !is_cxx {
                 out.put_pieces(&[b"  (void) ", param.name, b";\n"]);
             }
         }
+        let names = match is_cxx {
+            true => ("yysym.value", "yysym.location"),
+            false => ("(*yyvaluep)", "(*yylocationp)"),
+        };
         out.put(SWITCH);
         for symbol in 0..self.grammar.symbols() {
             if let Some(care) = self.care_of(deed, symbol) {
-                let scene = self.value_scene(Some(symbol), ("(*yyvaluep)", "(*yylocationp)"));
-                self.put_case(out, self.kind_of(symbol), care.piece, &scene)?;
+                let scene = self.value_scene(Some(symbol), names);
+                self.put_case(out, self.kind_of(symbol), care.piece, &scene);
             }
         }
-        Ok(())
     }
 }

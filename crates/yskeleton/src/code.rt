@@ -1,6 +1,6 @@
 //! Code of the file in the texts of a parser: each piece with where it is from.
 
-use crate::actions::{Trouble, put_action};
+use crate::actions::put_action;
 use crate::scene::Scene;
 use crate::skeleton::Skeleton;
 use crate::strings::{Escaped, put_string};
@@ -34,32 +34,19 @@ impl<'a> Skeleton<'a> {
     }
 
     /// Writes code of the file that names values and places.
-    pub fn put_code(
-        &self,
-        out: &mut Output,
-        piece: Piece<'a>,
-        scene: &Scene<'a>,
-    ) -> Result<(), Trouble> {
+    pub fn put_code(&self, out: &mut Output, piece: Piece<'a>, scene: &Scene<'a>) {
         self.put_line(out, piece.line, self.path);
-        put_action(out, piece, scene, self.style.dialect())?;
+        put_action(out, piece, scene, self.style.dialect());
         self.put_back(out);
-        Ok(())
     }
 
     /// Writes such code as a case.
-    pub fn put_case(
-        &self,
-        out: &mut Output,
-        number: usize,
-        piece: Piece<'a>,
-        scene: &Scene<'a>,
-    ) -> Result<(), Trouble> {
+    pub fn put_case(&self, out: &mut Output, number: usize, piece: Piece<'a>, scene: &Scene<'a>) {
         out.put("    case ");
         out.number(number);
         out.put(":\n");
-        self.put_code(out, piece, scene)?;
+        self.put_code(out, piece, scene);
         out.put("      break;\n");
-        Ok(())
     }
 
     /// Writes all code for one place.
@@ -81,11 +68,10 @@ impl<'a> Skeleton<'a> {
     }
 
     /// Writes the actions.
-    pub fn put_actions(&self, out: &mut Output) -> Result<(), Trouble> {
+    pub fn put_actions(&self, out: &mut Output) {
         for action in &self.parts.actions {
             let scene = self.action_scene(*action);
-            self.put_case(out, action.rule, action.piece, &scene)?;
+            self.put_case(out, action.rule, action.piece, &scene);
         }
-        Ok(())
     }
 }

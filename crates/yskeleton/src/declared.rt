@@ -38,7 +38,7 @@ pub fn in_c(grammar: &Grammar, token: Sym) -> Option<CToken<'_>> {
 
 /// What stands around the names of tokens and their numbers.
 #[derive(Clone, Copy)]
-struct Frame {
+pub struct Frame {
     /// Before the name that comes next.
     before: &'static str,
     /// Before those after it.
@@ -50,7 +50,7 @@ struct Frame {
 }
 
 /// Members of an enum.
-const MEMBERS: Frame = Frame {
+pub const MEMBERS: Frame = Frame {
     before: "\n  ",
     later: ",\n  ",
     between: " = ",
@@ -67,7 +67,7 @@ const MACROS: Frame = Frame {
 
 impl<'a> Skeleton<'a> {
     /// The token, where the file gives it a name in C.
-    fn named(&self, token: Sym) -> Option<CToken<'a>> {
+    pub fn named(&self, token: Sym) -> Option<CToken<'a>> {
         if self.parts.looks_of(token).is_made {
             return None;
         }
@@ -103,7 +103,7 @@ impl<'a> Skeleton<'a> {
 
     /// Writes the tokens that have names in C: with those that bison has beside them, but for what
     /// the file names by itself.
-    fn put_all_tokens(&self, out: &mut Output, mut frame: Frame) {
+    pub fn put_all_tokens(&self, out: &mut Output, mut frame: Frame) {
         if self.style.is_bison() {
             let names_undefined = self.grammar.find(b"YYUNDEF").is_some();
             let undefined = i64::try_from(self.numbering.undefined).unwrap_or(0);
@@ -195,9 +195,11 @@ const BYACC_PLACES: &str = "\n#if ! defined YYLTYPE && ! defined YYLTYPE_IS_DECL
     # define YYLTYPE_IS_DECLARED 1\n#endif\n";
 
 impl Skeleton<'_> {
-    /// Writes a union of values, and the front of another name for it.
-    fn put_union(&self, out: &mut Output) {
+    /// Writes a union of values, and in C the front of another name for it.
+    pub fn put_union(&self, out: &mut Output) {
+        let is_cxx = self.style.options.is_cxx();
         let (front, name): (&[u8], &[u8]) = match self.style.options.union_name {
+            _ if is_cxx => (b"", b"value_type"),
             Some(name) => (b"", name),
             None => (self.style.macros.as_slice(), b"STYPE"),
         };
@@ -219,7 +221,10 @@ impl Skeleton<'_> {
                 self.put_piece(out, piece);
             }
         }
-        out.put_pieces(&[b"};\ntypedef union ", front, name]);
+        out.put("};\n");
+        if !is_cxx {
+            out.put_pieces(&[b"typedef union ", front, name]);
+        }
     }
 
     /// Writes the type of values. Where a file has tags and no union, the type is the user's.

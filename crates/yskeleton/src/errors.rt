@@ -166,8 +166,8 @@ yyhas (int yystate, int yytoken)
 }
 
 @end
-/* Notes up to so many tokens that could come in place of a wrong one, none where there are more,
-   and gives their number; without a place for them it counts them all. */
+/* Notes up to so many tokens that could come in place of a wrong one, and gives their number, or 0
+   where there are more; without a place for them it counts them all. */
 static int
 yyexpected (const yystate_number *yyssp, int yywrong, int *yytokens, int yymost)
 {
@@ -208,6 +208,23 @@ yyexpected (const yystate_number *yyssp, int yywrong, int *yytokens, int yymost)
     }
   return yycount;
 }
+@if kinds
+
+/* The same, by the kinds of tokens; where none could come, the first is that of no symbol. */
+static int
+yykinds (const yystate_number *yyssp, int yywrong, yysymbol_kind_t yyarg[], int yymost)
+{
+  int yytokens[YYNTOKENS] = { -2 };
+  int yycount = yyexpected (yyssp, yywrong, yyarg ? yytokens : YY_NULLPTR, yymost);
+  int yynoted = yycount;
+  int yyn;
+  if (yycount == 0 && yymost > 0)
+    yynoted = yytokens[0] < 0 ? 1 : yymost;
+  for (yyn = 0; yyarg && yyn < yynoted; ++yyn)
+    yyarg[yyn] = YY_CAST (yysymbol_kind_t, yytokens[yyn]);
+  return yycount;
+}
+@end
 "##;
 
 /// How the text of an error is made.
@@ -327,7 +344,7 @@ yysyntax_error (char *yyroom, size_t yysize, const yystate_number *yyssp, int yy
 pub const CUSTOM: &str = r##"
 typedef struct
 {
-  const yystate_number *yyssp;
+  const yystate_number *yytop;
   yysymbol_kind_t yytoken;
 @locations   YYLTYPE *yylloc;
 } yypcontext_t;
@@ -335,20 +352,12 @@ typedef struct
 #define yypcontext_token(context) ((context)->yytoken)
 @locations #define yypcontext_location(context) ((context)->yylloc)
 
-/* Notes up to so many tokens that could come, none where there are more, and gives their number;
+/* Notes up to so many tokens that could come, and gives their number, or 0 where there are more;
    without a place for them it counts them all. */
 static int
 yypcontext_expected_tokens (const yypcontext_t *yycontext, yysymbol_kind_t yyarg[], int yymost)
 {
-  int yytokens[YYNTOKENS];
-  int yywrong = YY_CAST (int, yycontext->yytoken);
-  int yycount = yyexpected (yycontext->yyssp, yywrong, yyarg ? yytokens : YY_NULLPTR, yymost);
-  int yyn;
-  for (yyn = 0; yyarg && yyn < yycount; ++yyn)
-    yyarg[yyn] = YY_CAST (yysymbol_kind_t, yytokens[yyn]);
-  if (yyarg && yycount == 0 && yymost > 0)
-    yyarg[0] = YY_CAST (yysymbol_kind_t, -2);
-  return yycount;
+  return yykinds (yycontext->yytop, YY_CAST (int, yycontext->yytoken), yyarg, yymost);
 }
 
 static int yyreport_syntax_error (const yypcontext_t *yycontext YYMORE_DECL);

@@ -1,102 +1,18 @@
-//! The machine in C that reads the tables of a parser. It is C90 and C++, and makes the steps of
-//! docs/FORMATS.md, "Steps by a table". Lines that begin with `@` are conditions: `template` knows
-//! them.
-
-/// The machine up to what comes before the first token.
-pub const BEGIN: &str = r##"
-int
-YYPARSE_DECL()
-{
-@if pure
-  int yychar;
-  int yynerrs;
-  YYSTYPE yylval;
-@locations   YYLTYPE yylloc;
-@end
-  /* Each state on the stack stands for a symbol, but the first; so a value belongs to it. They are
-     local, since a lexer may call this function again. */
-  yystate_number yyssa[YYROOM (YYINITDEPTH)];
-  YYSTYPE yyvsa[YYROOM (YYINITDEPTH)];
-  yystate_number *yyss = yyssa;
-  yystate_number *yyssp = yyssa;
-  yystate_number *yysslast = yyssa + YYROOM (YYINITDEPTH) - 1;
-  YYSTYPE *yyvs = yyvsa;
-  YYSTYPE *yyvsp = yyvsa;
-@if locations
-  YYLTYPE yylsa[YYROOM (YYINITDEPTH)];
-  YYLTYPE *yyls = yylsa;
-  YYLTYPE *yylsp = yylsa;
-  YYLTYPE yyloc;
-  /* Where an error begins and ends. */
-  YYLTYPE yyerror_range[3];
-@if bison
-@if again
-@else
-  /* How deep the stack is where its top is an `error` that stands for what is discarded too. */
-  size_t yyerrdepth = 0;
-@end
-@end
-@end
-  size_t yydepth = YYINITDEPTH;
-  YYSTYPE yyval;
-  int yyerrflag = 0;
-  /* Indices have no sign, so that none is widened. */
-  unsigned yystate = 0;
-  unsigned yytoken;
-  unsigned yyn;
-  /* While an action runs, how many symbols its rule has. */
-  unsigned yym = 0;
-@if looks
-  /* Whether the token was tried before what is reduced at it. */
-  int yylooked = 0;
-@end
-@if speaks
-  /* The tokens of each entry of the stack, and those that could come in place of a wrong one. */
-  yyleaves yyleafa[YYROOM (YYINITDEPTH)];
-  yyleaves *yyleaf = yyleafa;
-  int yywants[YYNTOKENS];
-  int yywanted = -1;
-@end
-  int yyresult;
-
-#if YYDEBUG
-@if bison
-@if locations
-# ifdef YYPRINTS_LOCATIONS
-  (void) yylocation_print;
-# endif
-@end
-@else
-  {
-    const char *yylevel = getenv ("YYDEBUG");
-    if (yylevel && *yylevel >= '0' && *yylevel <= '9')
-      yydebug = *yylevel - '0';
-  }
-@end
-#endif
-@names   (void) yytname;
-  YYMEMSET (YY_CAST (void *, &yyval), 0, sizeof yyval);
-  yynerrs = 0;
-  yychar = YYNOTOKEN;
-  YYMEMSET (YY_CAST (void *, yyvsp), 0, sizeof *yyvsp);
-@if pure
-  YYMEMSET (YY_CAST (void *, &yylval), 0, sizeof yylval);
-@if locations
-  YYMEMSET (YY_CAST (void *, &yylloc), 0, sizeof yylloc);
-# if defined YYLTYPE_IS_TRIVIAL && YYLTYPE_IS_TRIVIAL
-  yylloc.first_line = yylloc.last_line = 1;
-  yylloc.first_column = yylloc.last_column = 1;
-# endif
-@end
-@end
-@locations   YYMEMSET (YY_CAST (void *, yyerror_range), 0, sizeof yyerror_range);
-@speaks   yyleaf->yycount = 0;
-  *yyssp = 0;
-"##;
+//! The machine in C that reads the tables of a parser, after what `begin` has. It is C90 and C++,
+//! and makes the steps of docs/FORMATS.md, "Steps by a table". Lines that begin with `@` are
+//! conditions: `template` knows them.
 
 /// The machine up to the actions.
 pub const MACHINE: &str = r##"
-@locations   *yylsp = yylloc;
+@if locations
+@if push
+@pure   if (yypushed_loc)
+@pure     *yylsp = *yypushed_loc;
+@shared   *yylsp = yypushed_loc;
+@else
+  *yylsp = yylloc;
+@end
+@end
   if (yyssp == yysslast)
     goto yygrow;
 
@@ -109,7 +25,31 @@ yyloop:
   if (yychar == YYNOTOKEN)
     {
 @recalls       yylooked = 0;
+@if push
+      if (!yyps->yynew)
+        {
+          yyresult = YYPUSH_MORE;
+          goto yypushreturn;
+        }
+      yyps->yynew = 0;
+@if shared
+      yychar = yypushed_char;
+      yylval = yypushed_val;
+@locations       yylloc = yypushed_loc;
+@end
+yyread_pushed_token:
+@if pure
+      yychar = yypushed_char;
+      if (yypushed_val)
+        yylval = *yypushed_val;
+@if locations
+      if (yypushed_loc)
+        yylloc = *yypushed_loc;
+@end
+@end
+@else
       yychar = YYLEX;
+@end
       if (yychar < 0)
         yychar = YYENDTOKEN;
       YYTRACE ((stderr, "%sdebug: state %u, reading %d (%s)\n", YYPREFIX, yystate, yychar,
@@ -152,6 +92,8 @@ yyloop:
       /* The end is an entry of bison's stack. */
       if (yyssp + 1 == yysslast && yydepth >= YYMAXDEPTH)
         YYNOMEM;
+@destroys       YYDESTRUCT (0, &yylval, &yylloc);
+      yychar = YYNOTOKEN;
 @end
       YYSTEP ('a', 0);
       YYACCEPT;
@@ -327,7 +269,7 @@ yyerrlab:
 @recalls           if (!yylooked || yywanted < 0)
             yywanted = yyexpected (yyssp, YY_CAST (int, yytoken), yywants, YYNTOKENS);
           yyabout.yytop = yyleaf + (yyssp - yyss);
-          yyabout.yydepth = YY_CAST (long, yyssp - yyss);
+          yyabout.yyentries = YY_CAST (long, yyssp - yyss);
           yyabout.yytoken = YY_CAST (int, yytoken);
           yyabout.yywanted = yywanted;
           yyabout.yywants = yywants;
@@ -355,7 +297,7 @@ yyerrlab:
         yypcontext_t yycontext;
         (void) yypcontext_expected_tokens;
         (void) yysymbol_name;
-        yycontext.yyssp = yyssp;
+        yycontext.yytop = yyssp;
         yycontext.yytoken = YY_CAST (yysymbol_kind_t, yytoken);
 @locations         yycontext.yylloc = &yylloc;
         if (YYREPORT (&yycontext) == 2)
@@ -455,6 +397,11 @@ yyreturn:
       YYPOPSTACK (1);
     }
 @end
+@if push
+  yyps->yynew = 2;
+
+yypushreturn:
+@else
   if (yyss != yyssa)
     {
       YYFREE (yyss);
@@ -462,6 +409,7 @@ yyreturn:
 @locations       YYFREE (yyls);
 @speaks       YYFREE (yyleaf);
     }
+@end
   return yyresult;
 }
 "##;

@@ -235,7 +235,12 @@ impl Numbering {
         let mut numbers = own_numbers(alloc, grammar, parts)?;
         let order = order_of(alloc, grammar, parts)?;
         let mut undefined = NO_TOKEN;
-        if is_bison {
+        if is_bison && parts.options.raw {
+            undefined = code.tokens;
+            for (token, number) in numbers.iter_mut().enumerate() {
+                *number = Some(token);
+            }
+        } else if is_bison {
             undefined = fill_by_bison(&mut numbers, grammar, &order);
         } else {
             fill_by_byacc(alloc, &mut numbers, parts)?;

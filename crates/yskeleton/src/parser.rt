@@ -1,10 +1,11 @@
 //! The text of a parser in C and that of its header, in the order that byacc or bison has.
 
-use crate::actions::Trouble;
+use crate::begin::BEGIN;
 use crate::errors::{
     CUSTOM, DESTROY_FRONT, EXPECTED, MESSAGE, SHOW_END, SHOW_FRONT, SWITCH_END, WAYS,
 };
-use crate::machine::{BEGIN, END, MACHINE};
+use crate::machine::{END, MACHINE};
+use crate::push::PUSHED;
 use crate::skeleton::Skeleton;
 use crate::spoken::SPOKEN;
 use crate::tables::READING;
@@ -49,6 +50,9 @@ impl Skeleton<'_> {
         }
         if style.names.as_slice() != b"yy".as_slice() {
             put_names(out, b"yy", &style.names, &NAMES);
+            if style.is_pushed() {
+                put_names(out, b"yy", &style.names, &PUSHED);
+            }
             if !style.is_pure() || !style.is_bison() {
                 put_names(out, b"yy", &style.names, &VARIABLES);
             }
@@ -90,16 +94,14 @@ impl Skeleton<'_> {
             }
         }
         if style.is_bison() {
-            out.put_pieces(&[b"\nint ", names, b"parse ("]);
-            self.put_parse(out);
-            out.put(");\n");
+            self.put_functions(out);
         }
         self.put_all(out, Target::Provides);
     }
 
     /// Writes the code blocks that stand before the first union, or those after it, where other
     /// code joins them.
-    fn put_blocks(&self, out: &mut Output, before: bool) {
+    pub fn put_blocks(&self, out: &mut Output, before: bool) {
         let mut is_before = true;
         for block in &self.parts.blocks {
             is_before = is_before && block.target != Target::Union;
@@ -176,45 +178,56 @@ impl Skeleton<'_> {
         if style.errors() == Errors::Custom {
             style.put_fixed(out, CUSTOM);
         }
+        self.put_kept(out);
+    }
+
+    /// What the place before the first token is called.
+    fn first_place(&self) -> &'static str {
+        match (self.style.is_pushed(), self.style.is_pure()) {
+            (false, _) => "yylloc",
+            (true, false) => "yypushed_loc",
+            (true, true) => "(*yypushed_loc)",
+        }
     }
 
     /// Writes the machine with the actions.
-    fn put_machine(&self, out: &mut Output) -> Result<(), Trouble> {
+    fn put_machine(&self, out: &mut Output) {
         let style = self.style;
         out.put(READING);
         self.put_texts(out);
         if style.destroys {
             style.put_fixed(out, DESTROY_FRONT);
-            self.put_cares(out, Deed::Destroy)?;
+            self.put_cares(out, Deed::Destroy);
             out.put(SWITCH_END);
         }
         if style.prints {
             style.put_fixed(out, SHOW_FRONT);
-            self.put_cares(out, Deed::Print)?;
+            self.put_cares(out, Deed::Print);
             out.put(SHOW_END);
         }
         if !style.is_bison() {
             out.put("\n#if ! defined yylex && ! defined YYSTATE\nint YYLEX_DECL();\n#endif\n");
         }
+        self.put_push_calls(out);
         style.put_fixed(out, BEGIN);
         for block in &self.parts.blocks {
             if block.target == Target::Initial {
-                let scene = self.value_scene(None, ("yylval", "yylloc"));
-                self.put_code(out, block.piece, &scene)?;
+                let scene = self.value_scene(None, ("yylval", self.first_place()));
+                self.put_code(out, block.piece, &scene);
             }
         }
         style.put_fixed(out, MACHINE);
-        self.put_actions(out)?;
+        self.put_actions(out);
         style.put_fixed(out, END);
-        Ok(())
+        self.put_push_end(out);
     }
 
     /// The text of the parser, with these rules that bison would reduce by default, where its lists
     /// are wanted.
-    pub fn parser(&self, alloc: Global, defaults: &[usize]) -> Result<Vec<u8>, Trouble> {
+    pub fn parser(&self, alloc: Global, defaults: &[usize]) -> Made<Vec<u8>> {
         let mut out = Output::new(alloc);
         self.put_begin(&mut out);
-        let written = if self.style.is_bison() {
+        if self.style.is_bison() {
             self.put_bison_front(&mut out);
             self.put_tables(alloc, &mut out, defaults)?;
             self.style.put_fixed(&mut out, WORDS);
@@ -222,19 +235,16 @@ impl Skeleton<'_> {
             out.put("#define YYNOSYMBOL ");
             out.number(self.numbering.undefined);
             out.put_pieces(&[b"\n#define YYERRCODE ", prefix, macros, b"UNDEF\n"]);
-            let written = self.put_machine(&mut out);
+            self.put_machine(&mut out);
             self.put_tail(&mut out);
-            written
         } else {
             self.put_byacc_front(&mut out);
             self.put_tables(alloc, &mut out, defaults)?;
             self.style.put_fixed(&mut out, WORDS);
             self.put_tail(&mut out);
-            self.put_machine(&mut out)
-        };
-        let text = out.into_bytes()?;
-        written?;
-        Ok(text)
+            self.put_machine(&mut out);
+        }
+        out.into_bytes()
     }
 
     /// The text of the header.

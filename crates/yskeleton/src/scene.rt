@@ -1,37 +1,38 @@
 //! What an action sees: the values and places of its body, and the names of these.
 
-use crate::references::{Piece, Reference, Whose, piece_at};
+use crate::references::{Reference, Whose};
 use crate::skeleton::Skeleton;
 use crate::style::Style;
-use std::alloc::Global;
 use yexplain::lines::is_inner;
-use yexplain::reads::{Made, body_of, left_of, name_of};
+use yexplain::reads::{body_of, left_of, name_of};
 use yparts::options::Values;
 use yparts::parts::{Action, Named, Parts};
 use ysymbols::{Grammar, Sym};
 
-/// What is wrong with a value or place that an action names.
+/// What is wrong with a value or place that code names.
 #[derive(Clone, Copy, Drop, PartialEq, Eq)]
 pub enum Misuse {
-    /// A symbol of this number is named, and only so many stand before the action.
-    OutOfRange(i64, usize),
+    /// No symbol before the action has this number.
+    OutOfRange,
     /// The value of the left side needs a tag, and has none.
     UntypedLeft,
-    /// The value of the symbol of this number needs a tag, and has none.
-    Untyped(i64),
+    /// The value of another symbol needs a tag, and has none.
+    Untyped,
     /// No symbol before the action has this name.
     Unknown,
     /// Several symbols have it.
     Ambiguous,
+    /// Nothing is, but other symbols have names that are like it.
+    Misleading,
+    /// A sign stands alone.
+    Stray,
 }
 
-/// A misuse, and how many bytes of the file stand before it.
-#[derive(Clone, Copy, Drop)]
-pub struct Misused {
-    /// The misuse.
-    pub misuse: Misuse,
-    /// The place.
-    pub at: usize,
+impl Misuse {
+    /// Whether it is only worth a warning.
+    pub fn is_harmless(self) -> bool {
+        matches!(self, Misuse::Misleading | Misuse::Stray)
+    }
 }
 
 /// A member of a value.
@@ -50,17 +51,18 @@ pub enum Member<'a> {
 pub struct Scene<'a> {
     grammar: &'a Grammar,
     parts: &'a Parts<'a>,
-    style: &'a Style<'a>,
+    /// How the parser looks.
+    pub style: &'a Style<'a>,
     /// The symbols before it in its body.
-    before: &'a [Sym],
+    pub before: &'a [Sym],
     /// The symbol that `$$` is of.
     left: Option<Sym>,
     /// The names of values.
-    names: &'a [Named<'a>],
+    pub names: &'a [Named<'a>],
     /// Whether it stands within its body, where the left side has no name.
-    is_inner: bool,
+    pub is_inner: bool,
     /// Whether `$$` needs a tag where other values have some.
-    is_strict: bool,
+    pub is_strict: bool,
     /// What `$$` is in C.
     pub value: &'static str,
     /// What `@$` is in C.
@@ -91,6 +93,10 @@ fn before_of(grammar: &Grammar, rule: usize) -> &[Sym] {
 impl<'a> Skeleton<'a> {
     /// What the action of a rule sees.
     pub fn action_scene(&self, action: Action<'a>) -> Scene<'a> {
+        let (value, location) = match self.style.options.is_cxx() {
+            true => ("yylhs.value", "yylhs.location"),
+            false => ("yyval", "yyloc"),
+        };
         Scene {
             grammar: self.grammar,
             parts: self.parts,
@@ -100,36 +106,9 @@ impl<'a> Skeleton<'a> {
             names: self.parts.names_in(action.body),
             is_inner: is_inner(self.grammar, action.rule),
             is_strict: true,
-            value: "yyval",
-            location: "yyloc",
+            value,
+            location,
         }
-    }
-
-    /// What is misused in actions, in the order of the file.
-    pub fn misuses(&self, alloc: Global) -> Made<Vec<Misused>> {
-        let (dialect, mut found) = (self.style.dialect(), Vec::new(alloc));
-        for action in &self.parts.actions {
-            let scene = self.action_scene(*action);
-            let text = action.piece.text;
-            let mut rest = text;
-            for _ in text {
-                let Some((piece, _, after)) = piece_at(rest, dialect) else {
-                    break;
-                };
-                let misuse = match piece {
-                    Piece::Text => None,
-                    Piece::Value(value) => scene.locate(value).err(),
-                    Piece::Place(whose) => scene.place(whose).err(),
-                };
-                if let Some(misuse) = misuse {
-                    let before = text.len().saturating_sub(rest.len());
-                    let at = action.piece.at.saturating_add(before);
-                    found.push(Misused { misuse, at })?;
-                }
-                rest = after;
-            }
-        }
-        Ok(found)
     }
 
     /// What code sees that stands in no rule: a value, of this symbol or of none, and a place, as
@@ -193,7 +172,7 @@ impl<'a> Scene<'a> {
     fn depth(&self, number: i64) -> Result<i64, Misuse> {
         let seen = self.before.len();
         if number > seen as i64 {
-            Err(Misuse::OutOfRange(number, seen))
+            Err(Misuse::OutOfRange)
         } else {
             Ok(number.saturating_sub(seen as i64))
         }
@@ -241,7 +220,7 @@ impl<'a> Scene<'a> {
         match (member, meant) {
             (Some(member), _) => Ok((place, member)),
             (None, None) if self.is_strict && self.style.has_tags => Err(Misuse::UntypedLeft),
-            (None, Some(number)) if self.style.has_tags => Err(Misuse::Untyped(number)),
+            (None, Some(_)) if self.style.has_tags => Err(Misuse::Untyped),
             (None, _) => Ok((place, Member::Whole)),
         }
     }

@@ -118,7 +118,7 @@ typedef struct
 typedef struct
 {
   const yyleaves *yytop;
-  long yydepth;
+  long yyentries;
   int yytoken;
   int yywanted;
   const int *yywants;
@@ -201,7 +201,7 @@ yyadd_piece (char *yyto, size_t yyat, const yypiece *yyp, const yyplight *yyabou
     return yyadd_expected (yyto, yyat, yyabout);
   if (yyp->yyvalue == 0)
     return yyadd (yyto, yyat, yycalled[yyabout->yytoken]);
-  if (yyp->yyvalue > yyabout->yydepth)
+  if (yyp->yyvalue > yyabout->yyentries)
     return yyat;
   return yyadd_entry (yyto, yyat, yyabout->yytop - (yyp->yyvalue - 1));
 }

@@ -4,7 +4,7 @@ use crate::references::{Dialect, Piece, piece_at};
 use std::alloc::Global;
 use ycode::Policy;
 use yexplain::reads::Made;
-use yparts::options::{Errors, Options, Purity};
+use yparts::options::{Errors, Options, Pull, Purity, Values};
 use yparts::parts::{Deed, Parts, Target};
 use ysymbols::{Grammar, Sym, let_go};
 
@@ -119,9 +119,14 @@ pub fn style_of<'a>(
         None => Vec::from_slice(alloc, named)?,
     };
     let (mut destroys, mut prints) = (false, false);
+    let mut has_tags = parts.has_tags();
     for care in &parts.cares {
         destroys = destroys || care.deed == Deed::Destroy;
         prints = prints || care.deed == Deed::Print;
+    }
+    for block in &parts.blocks {
+        let is_union = block.target == Target::Union;
+        has_tags = has_tags || (is_union && wishes.mode == Mode::Bison);
     }
     let mut style = Style {
         wishes,
@@ -129,7 +134,7 @@ pub fn style_of<'a>(
         names,
         types,
         macros,
-        has_tags: parts.has_tags(),
+        has_tags,
         locations: options.locations,
         destroys,
         prints,
@@ -158,6 +163,18 @@ impl<'a> Style<'a> {
         }
     }
 
+    /// Whether the numbers of tokens are those of symbols.
+    pub fn is_raw(&self) -> bool {
+        self.is_bison() && self.options.raw
+    }
+
+    /// Whether a program can ask which tokens could come.
+    fn has_kinds(&self) -> bool {
+        let errors = self.errors();
+        let is_asked = errors == Errors::Custom || (errors != Errors::Simple && self.is_pushed());
+        is_asked && !self.options.is_cxx()
+    }
+
     /// What is said of an error: in byacc's order that there is one.
     pub fn errors(&self) -> Errors {
         if self.is_bison() {
@@ -165,6 +182,16 @@ impl<'a> Style<'a> {
         } else {
             Errors::Simple
         }
+    }
+
+    /// Whether tokens are pushed into a parse.
+    pub fn is_pushed(&self) -> bool {
+        self.is_bison() && self.options.pull != Pull::Only
+    }
+
+    /// Whether a parse fetches its tokens.
+    pub fn is_pulled(&self) -> bool {
+        !self.is_pushed() || self.options.pull == Pull::Also
     }
 
     /// Whether a parser reduces by default as bison's does.
@@ -218,7 +245,11 @@ impl<'a> Style<'a> {
 
     /// What the names of the kinds of symbols begin with.
     pub fn symbol_prefix(&self) -> &'a [u8] {
-        self.options.symbol_prefix.unwrap_or(b"YYSYMBOL_")
+        match self.options.symbol_prefix {
+            Some(prefix) => prefix,
+            None if self.options.is_cxx() => b"S_",
+            None => b"YYSYMBOL_",
+        }
     }
 
     /// Whether the condition of a fixed text holds that has this word.
@@ -226,6 +257,12 @@ impl<'a> Style<'a> {
         match word {
             "bison" => self.is_bison(),
             "pure" => self.is_pure(),
+            "shared" => !self.is_pure(),
+            "push" => self.is_pushed(),
+            "pull" => !self.is_pushed(),
+            "pulls" => self.is_pulled(),
+            "raw" => self.is_raw(),
+            "kinds" => self.has_kinds(),
             "locations" => self.locations,
             "destroys" => self.destroys,
             "prints" => self.prints,
@@ -241,6 +278,10 @@ impl<'a> Style<'a> {
             "rows" => self.has_rows(),
             "speaks" => self.wishes.speaks,
             "names" => self.options.has_names,
+            "variant" => self.options.values == Values::Variant,
+            "asserts" => self.options.class.asserts,
+            "makes" => self.options.class.constructors,
+            "compares" => self.options.class.compares,
             _ => false,
         }
     }

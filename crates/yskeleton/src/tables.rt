@@ -7,6 +7,7 @@ use crate::strings::{Escaped, put_string};
 use std::alloc::Global;
 use yexplain::reads::{Made, body_of, left_of, name_of};
 use yfiles::output::Output;
+use yinput::spelled::usual_call;
 use ylalr::{ERROR, token_count};
 use yparts::options::Errors;
 use ysymbols::Sym;
@@ -25,11 +26,13 @@ pub const READING: &str = r##"
 
 /// Whether an array of names has them as in the file, or without quotes.
 #[derive(Clone, Copy, PartialEq, Eq)]
-enum Spelled {
+pub enum Spelled {
     /// As in the file.
     Quoted,
     /// Without quotes.
     Plain,
+    /// Without quotes, as people call it.
+    Called,
 }
 
 /// Writes that the name of a kind of symbols is translated.
@@ -47,12 +50,13 @@ impl Skeleton<'_> {
     fn put_item(&self, out: &mut Output, symbol: Sym, spelled: Spelled) {
         let label = match self.parts.looks_of(symbol).label {
             Some([b'_', b'(', text @ .., b')']) => Some(text.trim_ascii()),
+            None if spelled == Spelled::Called => usual_call(self.grammar, symbol),
             None if symbol == 0 && self.style.is_bison() => Some(self.end_label()),
             label => label,
         };
         out.put("  \"");
         match (label, spelled) {
-            (Some([b'"', inner @ .., b'"']), Spelled::Plain) => {
+            (Some([b'"', inner @ .., b'"']), Spelled::Plain | Spelled::Called) => {
                 put_string(out, inner, Escaped::Trigraphs);
             }
             (Some(label), _) => put_string(out, label, Escaped::Quotes),
@@ -75,7 +79,7 @@ impl Skeleton<'_> {
     }
 
     /// Writes the array of what symbols are called: tokens, what is no token, and nonterminals.
-    fn put_symbols(&self, out: &mut Output, name: &str, spelled: Spelled) {
+    pub fn put_symbols(&self, out: &mut Output, name: &str, spelled: Spelled) {
         let tokens = token_count(self.grammar);
         out.put_pieces(&[b"static const char *const ", name.as_bytes(), b"[] = {\n"]);
         for symbol in 0..tokens {
@@ -83,7 +87,7 @@ impl Skeleton<'_> {
         }
         out.put(match spelled {
             Spelled::Quoted => "  \"\\\"invalid token\\\"\",\n",
-            Spelled::Plain => "  \"invalid token\",\n",
+            Spelled::Plain | Spelled::Called => "  \"invalid token\",\n",
         });
         for symbol in tokens..self.grammar.symbols() {
             self.put_item(out, symbol, spelled);
@@ -155,17 +159,17 @@ impl Skeleton<'_> {
         self.put_rules(out);
         out.put("#endif\n");
         if style.wishes.speaks {
-            self.put_symbols(out, "yycalled", Spelled::Plain);
+            self.put_symbols(out, "yycalled", Spelled::Called);
         }
         if matches!(style.errors(), Errors::Detailed | Errors::Custom) {
             self.put_symbols(out, "yysymbols", Spelled::Plain);
+            out.put(SYMBOL_NAME);
             self.put_symbol_name(out);
         }
     }
 
-    /// Writes the function that names symbols.
-    fn put_symbol_name(&self, out: &mut Output) {
-        out.put(SYMBOL_NAME);
+    /// Writes the end of the function that names symbols.
+    pub fn put_symbol_name(&self, out: &mut Output) {
         let mut any = false;
         for symbol in 0..self.grammar.symbols() {
             let label = self.parts.looks_of(symbol).label.unwrap_or(b"");
@@ -239,7 +243,7 @@ impl Skeleton<'_> {
     fn put_leading(&self, alloc: Global, out: &mut Output) -> Made<()> {
         let style = self.style;
         let is_traced = !style.destroys;
-        if is_traced && !style.prints {
+        if style.options.is_cxx() || (is_traced && !style.prints) {
             return Ok(());
         }
         let symbols = self.code.symbols.as_slice();
@@ -254,12 +258,14 @@ impl Skeleton<'_> {
     }
 
     /// Writes the tables of a parser, with these rules that bison would reduce by default, where
-    /// its lists are wanted. Numbers of tokens are translated by the array of the code, unless the
-    /// file has numbers that the grammar can't have.
+    /// its lists are wanted, and but for C++ with the names. Numbers of tokens are translated by
+    /// the array of the code, unless the file has numbers that the grammar can't have.
     pub fn put_tables(&self, alloc: Global, out: &mut Output, defaults: &[usize]) -> Made<()> {
         let (code, numbering) = (self.code, self.numbering);
         self.put_counts(out);
-        if numbering.is_changed {
+        if self.style.is_raw() {
+            // the number of a token is that of its symbol
+        } else if numbering.is_changed {
             put_array(out, "yytranslate", &numbering.array, code.tokens);
             numbering.put_above(alloc, out, code.tokens)?;
         } else {
@@ -290,7 +296,9 @@ impl Skeleton<'_> {
         if self.style.lists() {
             put_array(out, "yydefault", defaults, code.rules);
         }
-        self.put_names(out);
+        if !self.style.options.is_cxx() {
+            self.put_names(out);
+        }
         Ok(())
     }
 }

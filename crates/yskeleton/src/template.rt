@@ -3,11 +3,30 @@
 //! A line that begins with `@if` and a word begins such a part, `@else` begins the part for when
 //! the condition doesn't hold, and `@end` ends it. Such parts nest. After `@`, the word of a
 //! condition and a space a part stands that is the rest of its line.
+//!
+//! In texts in C++ a `$` stands for the name of the class, `^` for what the names of the kinds of
+//! symbols begin with, and a backquote for what macros begin with.
 
 use crate::style::Style;
 use yfiles::output::Output;
 
 impl Style<'_> {
+    /// Writes a line, in C++ with the names that stand in it.
+    fn put_line(&self, out: &mut Output, line: &str) {
+        if !self.options.is_cxx() {
+            return out.line(line);
+        }
+        for byte in line.as_bytes() {
+            match *byte {
+                b'$' => out.put_bytes(self.options.class.name.unwrap_or(b"parser")),
+                b'^' => out.put_bytes(self.symbol_prefix()),
+                b'`' => out.put_bytes(&self.macros),
+                byte => out.put_bytes(&[byte]),
+            }
+        }
+        out.put("\n");
+    }
+
     /// Writes a text, of which each line has its newline, without the parts whose conditions don't
     /// hold.
     pub fn put_fixed(&self, out: &mut Output, text: &str) {
@@ -34,9 +53,9 @@ impl Style<'_> {
             } else if hidden == 0 {
                 let own = line.strip_prefix("@").unwrap_or("");
                 match own.split_once(' ') {
-                    Some((word, rest)) if self.holds(word) => out.line(rest),
+                    Some((word, rest)) if self.holds(word) => self.put_line(out, rest),
                     Some(_) => {}
-                    None => out.line(line),
+                    None => self.put_line(out, line),
                 }
             }
         }

@@ -6,8 +6,16 @@ pub const FRONT: &str = r##"
 @if bison
 #define YYBISON 30802
 #define YYBISON_VERSION "3.8.2"
+@if push
+#define YYPUSH 1
+@else
 #define YYPUSH 0
+@end
+@if pulls
 #define YYPULL 1
+@else
+#define YYPULL 0
+@end
 @else
 #define YYBYACC 1
 #define YYEMPTY (-1)
@@ -20,14 +28,37 @@ pub const INCLUDES: &str = r##"
 #if YYDEBUG
 #include <stdio.h>
 #endif
-#include <stdlib.h>
 @if bison
-/* A program without a library of C can have a <string.h> of its own. */
 #include <stddef.h>
+#if (defined __cplusplus && ! defined EXIT_SUCCESS \
+     && ! ((defined YYMALLOC || defined malloc) && (defined YYFREE || defined free)))
+# include <stdlib.h>
+#endif
+#ifndef YYMALLOC
+# define YYMALLOC malloc
+# if ! defined malloc && ! defined EXIT_SUCCESS
+void *malloc (size_t);
+# endif
+#endif
+#ifndef YYFREE
+# define YYFREE free
+# if ! defined free && ! defined EXIT_SUCCESS
+void free (void *);
+# endif
+#endif
+/* A program without a library of C can have a <string.h> of its own. */
 #ifdef __GNUC__
 # define YYMEMCPY __builtin_memcpy
 # define YYMEMSET __builtin_memset
 # define YYSTRLEN __builtin_strlen
+#endif
+@else
+#include <stdlib.h>
+#ifndef YYMALLOC
+# define YYMALLOC malloc
+#endif
+#ifndef YYFREE
+# define YYFREE free
 #endif
 @end
 #ifndef YYMEMCPY
@@ -74,9 +105,13 @@ pub const WORDS: &str = r##"
 #ifndef YYSOUGHT
 # define YYSOUGHT(c) YYNTOKENS
 #endif
+@if raw
+#define YYTRANSLATE(c) (YY_CAST (unsigned, c) < YYNTOKENS ? (c) : YYNTOKENS)
+@else
 #define YYTRANSLATE(c) \
   (YY_CAST (unsigned, c) <= YYMAXTOKEN ? YY_CAST (int, yytranslate[YY_CAST (unsigned, c)]) \
    : YYSOUGHT (c))
+@end
 
 #define yyerrok (yyerrflag = 0)
 #define yyclearin (yychar = YYNOTOKEN)
@@ -131,12 +166,6 @@ pub const WORDS: &str = r##"
 /* How many entries there is room for. The stack is full by one more than a depth. */
 #define YYROOM(depth) ((depth) + 1)
 @end
-#ifndef YYMALLOC
-# define YYMALLOC malloc
-#endif
-#ifndef YYFREE
-# define YYFREE free
-#endif
 @if locations
 #ifndef YYRHSLOC
 # define YYRHSLOC(Rhs, K) ((Rhs)[K])

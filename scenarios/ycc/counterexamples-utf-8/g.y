@@ -1,0 +1,6 @@
+%token IF ELSE ID
+%%
+s : IF ID s
+  | IF ID s ELSE s
+  | ID
+  ;

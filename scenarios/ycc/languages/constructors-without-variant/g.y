@@ -1,0 +1,5 @@
+%language "c++"
+%define api.token.constructor
+%token A
+%%
+s : A ;

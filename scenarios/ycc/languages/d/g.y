@@ -1,0 +1,4 @@
+%language "D"
+%token A
+%%
+s : A ;

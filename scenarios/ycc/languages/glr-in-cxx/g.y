@@ -1,0 +1,5 @@
+%language "c++"
+%glr-parser
+%token A
+%%
+s : A ;

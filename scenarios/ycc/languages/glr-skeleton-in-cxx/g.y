@@ -1,0 +1,4 @@
+%skeleton "glr2.cc"
+%token A
+%%
+s : A ;

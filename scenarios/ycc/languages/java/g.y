@@ -1,0 +1,4 @@
+%language "Java"
+%token A
+%%
+s : A ;

@@ -1,0 +1,5 @@
+%language "c++"
+%define api.push-pull push
+%token A
+%%
+s : A ;

@@ -1,0 +1,4 @@
+%skeleton "lalr1.d"
+%token A
+%%
+s : A ;

@@ -1,0 +1,4 @@
+%define api.value.type variant
+%token <int> A
+%%
+s : A ;

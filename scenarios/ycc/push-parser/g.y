@@ -1,4 +1,0 @@
-%define api.push-pull push
-%token A
-%%
-s : A ;

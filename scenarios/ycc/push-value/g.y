@@ -1,0 +1,4 @@
+%define api.push-pull sideways
+%token A
+%%
+s : A ;

@@ -1,0 +1,4 @@
+%define api.token.raw
+%token A
+%%
+s : A '+' A ;

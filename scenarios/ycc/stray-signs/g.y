@@ -1,0 +1,4 @@
+%token A
+%destructor { f ($$, $1); } A
+%%
+s : A { g ($1, $<n); } ;
