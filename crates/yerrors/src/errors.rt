@@ -7,7 +7,7 @@ use crate::search::{Search, can_stand};
 use crate::ways::Ways;
 use std::alloc::{AllocError, Global};
 use std::io;
-use yexplain::reads::{Made, action_of, default_of, grammar_of};
+use yexplain::reads::{Made, action_of, default_of, grammar_of, set};
 use ylalr::token_count;
 use yparse::Session;
 use ysymbols::{Sym, let_go};
@@ -144,22 +144,31 @@ fn reason_of(search: &Search<'_>, absent: &[bool], state: usize, is_done: bool) 
 }
 
 /// What a search has for each state, the last one first, by inputs without the tokens that are
-/// marked.
+/// marked. Each list ends in a token that ends few of the others.
 fn seek(alloc: Global, tables: &Tables, absent: &[bool]) -> Made<Vec<Sought>> {
     let mut search = Search::new(alloc, Ways::new(alloc, tables)?, absent)?;
     let is_done = search.run()?;
+    let mut uses = vec![in alloc; 0usize; token_count(grammar_of(tables))]?;
     let mut found = Vec::new(alloc);
-    for state in (0..tables.automaton().states()).rev() {
+    for state in 0..tables.automaton().states() {
         let sought = match search.detected(state) {
             None => Sought::Without(reason_of(&search, absent, state, is_done)),
             Some(detected) if detected.cost > MOST_TOKENS => Sought::Without(Reason::Long),
-            Some(detected) => match search.list(alloc, state, detected.token)? {
-                Some(tokens) => Sought::List(tokens, detected.token),
-                None => Sought::Without(Reason::Long),
-            },
+            Some(detected) => {
+                let last = search.least_used(detected.at, &uses);
+                match search.list(alloc, state, last)? {
+                    Some(tokens) => {
+                        let count = uses.get(last).copied().unwrap_or(0);
+                        set(&mut uses, last, count.saturating_add(1));
+                        Sought::List(tokens, last)
+                    }
+                    None => Sought::Without(Reason::Long),
+                }
+            }
         };
         found.push(sought)?;
     }
+    found.reverse();
     Ok(found)
 }
 

@@ -11,13 +11,13 @@ use ylalr::{END, ERROR, Item, token_count};
 use ysymbols::{Sym, let_go};
 use ytables::Action;
 
-/// The token at which an error is detected in a state first, and how many are taken before.
+/// The tokens at which errors are detected in a state first, and how many are taken before.
 #[derive(Clone, Copy, Drop)]
 pub struct Detected {
     /// How many tokens are taken before.
     pub cost: u64,
-    /// The token.
-    pub token: Sym,
+    /// The set of the tokens.
+    pub at: usize,
 }
 
 /// A search in tables.
@@ -75,7 +75,7 @@ impl<'a> Search<'a> {
         })
     }
 
-    /// The error that a state detects first, where one was found.
+    /// The errors that a state detects first, where some were found.
     pub fn detected(&self, state: usize) -> Option<Detected> {
         self.detected.get(state).copied().flatten()
     }
@@ -187,17 +187,35 @@ impl<'a> Search<'a> {
         }
     }
 
-    /// Notes an error, where it comes before the one that is noted: after fewer tokens, or as many
-    /// and at a token with a lower number, the end the highest of all.
-    pub fn note(&mut self, state: usize, detected: Detected) {
-        if let Some(known) = self.detected(state) {
-            let is_lower = known.token == END || detected.token < known.token;
-            let is_tied = detected.cost == known.cost;
-            let is_before = is_tied && is_lower && detected.token != END;
-            if detected.cost >= known.cost && !is_before {
-                return;
+    /// Notes an error at a token after so many others, unless one after fewer is noted.
+    pub fn note(&mut self, state: usize, cost: u64, token: Sym) -> Made<()> {
+        match self.detected(state) {
+            Some(known) if known.cost < cost => return Ok(()),
+            Some(known) if known.cost == cost => {
+                self.rows.sets.add(known.at, token);
+                return Ok(());
+            }
+            _ => {}
+        }
+        let at = self.rows.make_set()?;
+        self.rows.sets.add(at, token);
+        set(&mut self.detected, state, Some(Detected { cost, at }));
+        Ok(())
+    }
+
+    /// Of the tokens of a set the one that was used least so far; of equals the one with the least
+    /// number, the end last.
+    pub fn least_used(&self, at: usize, uses: &[usize]) -> Sym {
+        let (mut best, mut least) = (END, usize::MAX);
+        for (token, count) in uses.iter().enumerate().skip(1) {
+            if *count < least && self.rows.sets.has(at, token) {
+                best = token;
+                least = *count;
             }
         }
-        set(&mut self.detected, state, Some(detected));
+        match uses.first() {
+            Some(count) if *count < least && self.rows.sets.has(at, END) => END,
+            _ => best,
+        }
     }
 }

@@ -7,7 +7,7 @@
 //! the fewest tokens first, so each is found with as few tokens as there can be.
 
 use crate::rows::{Key, Level, Part, Spot, Taken};
-use crate::search::{Detected, Search, state_key};
+use crate::search::{Search, state_key};
 use crate::sets::Source;
 use yexplain::reads::{Made, action_of, grammar_of, is_complete};
 use ylalr::{Item, token_count};
@@ -217,7 +217,7 @@ impl Search<'_> {
                     let next = cost.saturating_add(1);
                     self.give(Some(state_key(to)), next, Source::all(inputs), taken)?;
                 }
-                Action::Error => self.note(state, Detected { cost, token }),
+                Action::Error => self.note(state, cost, token)?,
                 Action::Reduce(_) | Action::Accept => {}
             }
         }

@@ -83,22 +83,25 @@ impl Language {
             spelled,
             ..
         } = text;
+        let (alloc, grammar) = (rt.alloc(), grammar_of(&opened.tables));
         let Some(spec) = files.spec else {
-            let lexer = None;
+            let spelled = spelled.with_usual(alloc, grammar)?;
             return Ok(Ok(Language {
                 opened,
                 spelled,
-                lexer,
+                lexer: None,
             }));
         };
         let lexer = match read_lexer(rt, &opened.tables, spec)? {
             Ok(lexer) => lexer,
             Err(fault) => return fault.tell(rt, told, files.grammar, &opened).map(Err),
         };
-        let texts = lexer.texts(rt.alloc(), grammar_of(&opened.tables))?;
+        let texts = lexer.texts(alloc, grammar)?;
+        let spelled = spelled.with_texts(alloc, &texts)?;
+        let spelled = spelled.with_usual(alloc, grammar)?;
         Ok(Ok(Language {
             opened,
-            spelled: spelled.with_texts(rt.alloc(), &texts)?,
+            spelled,
             lexer: Some(lexer),
         }))
     }

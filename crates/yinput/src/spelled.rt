@@ -4,7 +4,20 @@
 use std::alloc::Global;
 use std::io::{self, Write};
 use yexplain::reads::{Made, name_of};
+use ylalr::END;
 use ysymbols::{Grammar, Sym};
+
+/// What people call a symbol of which nothing else is said, and whose name says little: the end,
+/// and the newline as a literal.
+pub fn usual_call(grammar: &Grammar, symbol: Sym) -> Option<&'static [u8]> {
+    if symbol == END {
+        Some(b"end of input")
+    } else if name_of(grammar, symbol) == b"'\\012'".as_slice() {
+        Some(b"end of line")
+    } else {
+        None
+    }
+}
 
 /// What symbols are called that aren't called by their names, by their numbers.
 #[derive(Drop)]
@@ -38,6 +51,22 @@ impl Spelled {
                     Some(quoted)
                 }
                 (None, None) => None,
+            })?;
+        }
+        Ok(Spelled { texts: all })
+    }
+
+    /// The same, with what people call the other symbols, where that isn't their name.
+    pub fn with_usual(&self, alloc: Global, grammar: &Grammar) -> Made<Spelled> {
+        let mut all = Vec::new(alloc);
+        for symbol in 0..grammar.symbols() {
+            let called = match self.of(symbol) {
+                Some(called) => Some(called),
+                None => usual_call(grammar, symbol),
+            };
+            all.push(match called {
+                Some(called) => Some(Vec::from_slice(alloc, called)?),
+                None => None,
             })?;
         }
         Ok(Spelled { texts: all })

@@ -7,14 +7,14 @@ use ysearch::groups::{Conflicts, Group};
 use ytables::Tables;
 use yview::page::Page;
 
-/// Writes how many conflicts there are, as the end of a line.
-pub fn put_counts<W: Write>(page: &mut Page<W>, tables: &Tables, found: &Conflicts) {
+/// Writes how many conflicts there are, in how many cells and groups, as the end of a line.
+pub fn put_counts<W: Write>(page: &mut Page<W>, tables: &Tables, found: &Conflicts, groups: usize) {
     let counts = tables.conflicts();
     let (shifts, reduces) = (counts.shift_reduce, counts.reduce_reduce);
     let _ = write!(page, "{shifts} shift/reduce, {reduces} reduce/reduce, in ");
     page.count(found.cells, "table entry", "table entries");
     page.put(" of ");
-    page.count(found.groups.len(), "group", "groups");
+    page.count(groups, "group", "groups");
     page.end();
 }
 

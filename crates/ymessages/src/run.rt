@@ -36,6 +36,8 @@ pub struct Asked<'a> {
     pub complete: bool,
     /// Whether the file is to be written anew.
     pub update: bool,
+    /// Whether each state gets a block of its own.
+    pub alone: bool,
     /// The file to which the messages are to be written as data.
     pub table: Option<&'a str>,
 }
@@ -94,11 +96,12 @@ impl Found {
         })
     }
 
-    /// What a file of a path is written with, by what is confirmed of its inputs.
+    /// What a file of a path is written with, by what is confirmed of its inputs, and whether each
+    /// state that is new gets a block of its own.
     fn update<'a>(
         &'a self,
         alloc: Global,
-        path: &'a str,
+        (path, alone): (&'a str, bool),
         confirmed: &'a [Option<Confirmed>],
     ) -> Update<'a> {
         Update {
@@ -110,13 +113,19 @@ impl Found {
             messages: &self.messages,
             confirmed,
             writer: self.writer.as_ref(),
+            alone,
         }
     }
 
     /// Writes the file anew, and says which states are new.
-    fn put<W: Write>(&mut self, alloc: Global, path: &str, out: &mut W) -> io::Result<New> {
+    fn put<W: Write>(
+        &mut self,
+        alloc: Global,
+        (path, alone): (&str, bool),
+        out: &mut W,
+    ) -> io::Result<New> {
         let confirmed = confirm_all(alloc, &mut self.session, &self.messages)?;
-        let update = self.update(alloc, path, &confirmed);
+        let update = self.update(alloc, (path, alone), &confirmed);
         let mut page = Page::new(&mut *out, false);
         let new = update.put(&mut page);
         page.checked()?;
@@ -131,7 +140,7 @@ impl Found {
         path: &str,
         errors: &mut E,
     ) -> io::Result<usize> {
-        let update = self.update(alloc, path, &[]);
+        let update = self.update(alloc, (path, true), &[]);
         let mut count: usize = 0;
         for state in 0..self.errors.outcomes.len() {
             if let Some(confirmed) = update.new_list(state) {
@@ -209,7 +218,7 @@ fn put_renewed<W: Write>(
 ) -> io::Result<()> {
     put_inputs(out, path, messages)?;
     write!(out, ", {wrong} wrong; ")?;
-    put_count(out, new.blocks, "new state", "new states")?;
+    put_count(out, new.told, "new state", "new states")?;
     if new.untold > 0 {
         write!(out, "; ")?;
         put_count(
@@ -225,7 +234,7 @@ fn put_renewed<W: Write>(
 /// Writes a file anew that is read, and gives the exit status.
 fn rewrite<F: Files + AllocGlobal, W: Write, E: Write>(
     rt: &F,
-    (grammar, path): (&str, &str),
+    (grammar, path, alone): (&str, &str, bool),
     (language, messages): (Language, Messages),
     out: &mut W,
     errors: &mut E,
@@ -236,7 +245,7 @@ fn rewrite<F: Files + AllocGlobal, W: Write, E: Write>(
     told.put(errors, "ydebug")?;
     let mut found = Found::new(alloc, language, messages)?;
     let mut text = Vec::new(alloc);
-    let new = found.put(alloc, grammar, &mut text)?;
+    let new = found.put(alloc, (grammar, alone), &mut text)?;
     let status = put_file(rt, Some(path), &text, errors)?;
     if status > 0 {
         return Ok(status);
@@ -315,9 +324,14 @@ fn run_open<F: Files + AllocGlobal, W: Write, E: Write>(
         // a file of messages that has no message yet
         None => {
             let mut found = Found::new(rt.alloc(), read.0, read.1)?;
-            found.put(rt.alloc(), grammar, out).map(|_| 0)
+            found
+                .put(rt.alloc(), (grammar, asked.alone), out)
+                .map(|_| 0)
         }
-        Some(file) if asked.update => rewrite(rt, (grammar, file.path), read, out, errors),
+        Some(file) if asked.update => {
+            let way = (grammar, file.path, asked.alone);
+            rewrite(rt, way, read, out, errors)
+        }
         Some(file) => check(rt, asked, file, read, out, errors),
     }
 }

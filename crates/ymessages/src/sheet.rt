@@ -126,20 +126,28 @@ fn put_items<W: Write>(page: &mut Page<W>, tables: &Tables, state: usize) {
     }
 }
 
-/// Writes the state of an input, its items, the stack, and the tokens that could come.
+/// Writes the state of an input, its items, the stack, and the tokens that could come, unless these
+/// are those of the input before it.
 pub fn put_state<W: Write>(
     page: &mut Page<W>,
     tables: &Tables,
     state: usize,
     confirmed: &Confirmed,
+    before: Option<&Confirmed>,
 ) {
     let grammar = grammar_of(tables);
     let _ = writeln!(page, "## state {state}");
     put_items(page, tables, state);
     put_stack(page, grammar, &confirmed.stack);
-    put_symbols(page, grammar, "## expected", &confirmed.wanted.can);
-    if !confirmed.wanted.unknown.is_empty() {
-        put_symbols(page, grammar, "## unknown ", &confirmed.wanted.unknown);
+    let wanted = &confirmed.wanted;
+    if let Some(Confirmed { wanted: others, .. }) = before {
+        if others.can == wanted.can && others.unknown == wanted.unknown {
+            return;
+        }
+    }
+    put_symbols(page, grammar, "## expected", &wanted.can);
+    if !wanted.unknown.is_empty() {
+        put_symbols(page, grammar, "## unknown ", &wanted.unknown);
     }
 }
 

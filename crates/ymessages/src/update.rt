@@ -8,11 +8,13 @@ use crate::messages::Messages;
 use crate::refusal::put_came;
 use crate::sheet::{put_head, put_no_text, put_state, put_tail, put_tokens};
 use crate::written::line_of;
+use indexmap::IndexSet;
 use std::alloc::{AllocError, Global};
 use std::io::{self, Write};
 use yerrors::confirm::{Confirmed, confirm, reductions};
 use yerrors::errors::Errors;
-use yexplain::reads::grammar_of;
+use yexplain::reads::{Made, grammar_of};
+use yinput::expected::Wanted;
 use ylex::writer::Writer;
 use yparse::Session;
 use ytables::Tables;
@@ -40,13 +42,15 @@ pub struct Update<'a> {
     pub confirmed: &'a [Option<Confirmed>],
     /// What writes inputs as texts; without it, they are tokens.
     pub writer: Option<&'a Writer>,
+    /// Whether each state that is new gets a block of its own.
+    pub alone: bool,
 }
 
 /// The states that no input of a file claims.
 #[derive(Clone, Copy, Drop)]
 pub struct New {
-    /// How many got a block.
-    pub blocks: usize,
+    /// How many got an input.
+    pub told: usize,
     /// For how many no text is found.
     pub untold: usize,
 }
@@ -86,7 +90,8 @@ impl<'a> Update<'a> {
         let confirmed = self.confirmed.get(number);
         match (claim.state(), confirmed) {
             (Some(state), Some(Some(confirmed))) => {
-                put_state(page, self.tables, state, confirmed);
+                let before = self.before(number, claim.part);
+                put_state(page, self.tables, state, confirmed, before);
             }
             _ => {
                 page.put("## wrong: ");
@@ -96,6 +101,18 @@ impl<'a> Update<'a> {
         }
         if self.messages.claims.rival(claim).is_some() {
             page.line("## wrong: an input above has this state, with another message");
+        }
+    }
+
+    /// What a session has of the input before the one of a number, where that is in the same part.
+    fn before(self, number: usize, part: usize) -> Option<&'a Confirmed> {
+        let place = number.checked_sub(1)?;
+        let (messages, confirmed) = (self.messages, self.confirmed);
+        let claim = messages.claims.all.get(place)?;
+        if claim.part == part {
+            confirmed.get(place)?.as_ref()
+        } else {
+            None
         }
     }
 
@@ -157,13 +174,40 @@ impl<'a> Update<'a> {
         line_of(self.alloc, inputs, self.writer, list)
     }
 
-    /// Writes a block with the input of this line for a state.
-    fn put_block<W: Write>(
+    /// The states that are new, in groups: those at which the same tokens could come stand together,
+    /// unless each is wanted alone.
+    fn groups(self) -> Made<Vec<Vec<usize>>> {
+        let mut keys: IndexSet<Vec<usize>> = IndexSet::new(self.alloc);
+        let mut groups: Vec<Vec<usize>> = Vec::new(self.alloc);
+        for state in 0..self.errors.outcomes.len() {
+            let Some(confirmed) = self.new_list(state) else {
+                continue;
+            };
+            let Wanted { can, unknown } = &confirmed.wanted;
+            let mut key = Vec::from_slice(self.alloc, can)?;
+            key.push(usize::MAX)?;
+            key.extend_from_slice(unknown)?;
+            if self.alone {
+                key.push(state)?;
+            }
+            let (place, is_new) = keys.insert_full(key)?;
+            if is_new {
+                groups.push(Vec::new(self.alloc))?;
+            }
+            if let Some(group) = groups.get_mut(place) {
+                group.push(state)?;
+            }
+        }
+        Ok(groups)
+    }
+
+    /// Writes the input of this line for a state, after that of another one of its block.
+    fn put_input<W: Write>(
         self,
         page: &mut Page<W>,
         line: &[u8],
-        state: usize,
-        confirmed: &Confirmed,
+        (state, confirmed): (usize, &Confirmed),
+        before: Option<&Confirmed>,
     ) {
         let _ = page.write_all(line);
         page.end();
@@ -171,45 +215,52 @@ impl<'a> Update<'a> {
             let list = (confirmed.tokens.as_slice(), confirmed.last);
             put_tokens(page, grammar_of(self.tables), list);
         }
-        put_state(page, self.tables, state, confirmed);
-        self.put_message(page, FIRST);
-        page.end();
+        put_state(page, self.tables, state, confirmed, before);
     }
 
-    /// Writes what there is of a state that is new, and says whether that is a block.
-    fn put_state<W: Write>(
-        self,
-        page: &mut Page<W>,
-        state: usize,
-        confirmed: &Confirmed,
-    ) -> io::Result<bool> {
-        let line = self.line(confirmed)?;
-        match &line {
-            Some(line) => self.put_block(page, line, state, confirmed),
-            None => {
-                // comments alone
-                let list = (confirmed.tokens.as_slice(), confirmed.last);
-                put_no_text(page, grammar_of(self.tables), list);
-                put_state(page, self.tables, state, confirmed);
-                page.end();
-            }
-        }
-        Ok(line.is_some())
-    }
-
-    /// Writes a block for each state that is new.
-    fn put_new<W: Write>(self, page: &mut Page<W>) -> io::Result<New> {
-        let (mut blocks, mut untold): (usize, usize) = (0, 0);
-        for state in 0..self.errors.outcomes.len() {
-            if let Some(confirmed) = self.new_list(state) {
-                if self.put_state(page, state, confirmed)? {
-                    blocks = blocks.saturating_add(1);
-                } else {
-                    untold = untold.saturating_add(1);
+    /// Writes what there is of states that are new: a block, and comments for each for which no
+    /// text is found.
+    fn put_group<W: Write>(self, page: &mut Page<W>, states: &[usize]) -> io::Result<New> {
+        let (mut before, mut told, mut silent) = (None, 0usize, Vec::new(self.alloc));
+        for state in states {
+            let Some(confirmed) = self.new_list(*state) else {
+                continue;
+            };
+            match self.line(confirmed)? {
+                Some(line) => {
+                    self.put_input(page, &line, (*state, confirmed), before);
+                    before = Some(confirmed);
+                    told = told.saturating_add(1);
                 }
+                None => silent.push(*state).map_err(AllocError::from)?,
             }
         }
-        Ok(New { blocks, untold })
+        if told > 0 {
+            self.put_message(page, FIRST);
+            page.end();
+        }
+        for state in &silent {
+            let Some(confirmed) = self.new_list(*state) else {
+                continue;
+            };
+            let list = (confirmed.tokens.as_slice(), confirmed.last);
+            put_no_text(page, grammar_of(self.tables), list);
+            put_state(page, self.tables, *state, confirmed, None);
+            page.end();
+        }
+        let untold = silent.len();
+        Ok(New { told, untold })
+    }
+
+    /// Writes the blocks of the states that are new.
+    fn put_new<W: Write>(self, page: &mut Page<W>) -> io::Result<New> {
+        let (mut told, mut untold): (usize, usize) = (0, 0);
+        for states in &self.groups()? {
+            let new = self.put_group(page, states)?;
+            told = told.saturating_add(new.told);
+            untold = untold.saturating_add(new.untold);
+        }
+        Ok(New { told, untold })
     }
 
     /// Writes the file, and says what states are new.

@@ -1,6 +1,7 @@
 //! The sentences that are kept: each uses something that no other one does.
 
 use crate::contexts::{Contexts, Place};
+use crate::draw::{Numbers, draw};
 use crate::elements::Kind;
 use crate::seek::{Goal, MOST_TOKENS, Seeker, Sought};
 use crate::trial::Trier;
@@ -19,6 +20,12 @@ const MOST_OTHERS: usize = 20;
 
 /// How many cells of a rule are sought that its own sentence misses.
 const MOST_CELLS: usize = 10;
+
+/// How many sentences of each length are drawn for what the parses over all other lists miss, and
+/// these lengths, which they have at most.
+const MOST_DRAWN: usize = 100;
+
+const LENGTHS: [u64; 4] = [2, 4, 8, 16];
 
 /// A sentence: its tokens, what it uses of the kind that is wanted, and whether it is kept.
 #[derive(Drop)]
@@ -67,6 +74,8 @@ pub struct Chosen {
     pub used: Vec<bool>,
     /// Why the others aren't used.
     pub missing: Vec<Missing>,
+    /// How many elements were used for the first time by the last sentence that was offered.
+    new: usize,
 }
 
 impl Chosen {
@@ -77,12 +86,15 @@ impl Chosen {
 
     /// Takes a sentence, where it uses something new.
     fn take(&mut self, tokens: Vec<Sym>, uses: Vec<usize>) -> Made<()> {
-        let (mut uses, mut is_new) = (uses, false);
+        let mut uses = uses;
+        self.new = 0;
         for element in &uses {
-            is_new = is_new || !self.is_used(*element);
+            self.new = self
+                .new
+                .saturating_add(usize::from(!self.is_used(*element)));
             set(&mut self.used, *element, true);
         }
-        if is_new {
+        if self.new > 0 {
             uses.sort()?;
             self.sentences.push(Sentence {
                 tokens,
@@ -152,6 +164,7 @@ impl<'a> Chooser<'a> {
                 sentences: Vec::new(alloc),
                 used: vec![in alloc; false; count]?,
                 missing: vec![in alloc; Missing::Late; count]?,
+                new: 0,
             },
             rules: vec![in alloc; false; rules]?,
         })
@@ -159,6 +172,7 @@ impl<'a> Chooser<'a> {
 
     /// Tries a sentence, and takes it where it is accepted and uses something new.
     fn offer(&mut self, tokens: Vec<Sym>) -> io::Result<()> {
+        self.chosen.new = 0;
         let is_accepted = self.trier.accepts(&tokens)?;
         let steps = self.trier.steps.saturating_add(tokens.len());
         self.seeker.finder.steps.spend(steps);
@@ -348,11 +362,52 @@ impl<'a> Chooser<'a> {
     }
 }
 
+impl Chooser<'_> {
+    /// How many elements are missed since the parse over each list that was tried went another way.
+    fn astray(&self) -> usize {
+        let (chosen, mut count) = (&self.chosen, 0usize);
+        for (used, missing) in chosen.used.iter().zip(&chosen.missing) {
+            let is_astray = matches!(missing, Missing::Astray) && !*used;
+            count = count.saturating_add(usize::from(is_astray));
+        }
+        count
+    }
+
+    /// A sentence that is drawn, of at most so many tokens.
+    fn drawn(&self, numbers: &mut Numbers, most: u64) -> Made<Option<Vec<Sym>>> {
+        let grammar = grammar_of(self.trier.session.tables());
+        let shortest = &self.seeker.finder.shortest;
+        draw(self.alloc, grammar, shortest, numbers, most)
+    }
+
+    /// Offers sentences that are drawn, short ones first, as long as elements are missed since parses
+    /// went another way.
+    fn offer_drawn(&mut self) -> io::Result<()> {
+        let (mut astray, mut numbers) = (self.astray(), Numbers { now: 1 });
+        for most in &LENGTHS {
+            for _ in 0..MOST_DRAWN {
+                if astray == 0 || !self.seeker.finder.has_steps() {
+                    return Ok(());
+                }
+                let Some(tokens) = self.drawn(&mut numbers, *most)? else {
+                    return Ok(());
+                };
+                self.offer(tokens)?;
+                if self.chosen.new > 0 {
+                    astray = self.astray();
+                }
+            }
+        }
+        Ok(())
+    }
+}
+
 /// Sentences that use all elements of a kind which are found, in a session without tokens.
 pub fn choose(alloc: Global, session: &mut Session, kind: Kind) -> io::Result<Chosen> {
     let mut chooser = Chooser::new(alloc, session, kind)?;
     chooser.offer_rules()?;
     chooser.seek_all()?;
+    chooser.offer_drawn()?;
     let Chooser { chosen, .. } = chooser;
     let mut chosen = chosen;
     chosen.thin(alloc)?;

@@ -17,6 +17,29 @@ const MOST_STEPS: usize = 1_000_000;
 /// All kinds, in the order in which they are written.
 const KINDS: [Kind; 3] = [Kind::Rules, Kind::States, Kind::Cells];
 
+/// The most elements of a kind that are listed where they aren't asked for.
+const FEW: usize = 10;
+
+/// What is listed of all that isn't used, beside rules.
+#[derive(Clone, Copy)]
+pub struct Listed {
+    /// States.
+    pub states: bool,
+    /// Actions: filled cells.
+    pub actions: bool,
+}
+
+impl Listed {
+    /// Whether so many elements of a kind are listed.
+    fn has(self, kind: Kind, count: usize) -> bool {
+        match kind {
+            Kind::Rules => true,
+            Kind::States => self.states || count <= FEW,
+            Kind::Cells => self.actions || count <= FEW,
+        }
+    }
+}
+
 /// What parses by tables have used.
 #[derive(Drop)]
 pub struct Walked {
@@ -54,25 +77,41 @@ pub fn walk_all(alloc: Global, tables: Tables, inputs: &[Input]) -> io::Result<W
     })
 }
 
-/// Writes how many of each kind were used, and a line for each element that never was, and says
-/// whether all was.
-pub fn put_report<W: Write>(out: &mut W, elements: Elements<'_>, uses: &Uses) -> io::Result<bool> {
+/// How many elements of a kind there are, and how many of them were used.
+fn counts_of(uses: &Uses, kind: Kind) -> (usize, usize) {
+    let rounds = uses.rounds(kind).get(kind.first()..).unwrap_or(&[]);
+    let mut used: usize = 0;
+    for round in rounds {
+        used = used.saturating_add(usize::from(*round > 0));
+    }
+    (rounds.len(), used)
+}
+
+/// Writes how many of each kind were used, a line for each rule that never was, and one for each
+/// other element, or how many these are; says whether all was used.
+pub fn put_report<W: Write>(
+    out: &mut W,
+    elements: Elements<'_>,
+    uses: &Uses,
+    listed: Listed,
+) -> io::Result<bool> {
     for (place, kind) in KINDS.iter().enumerate() {
-        let rounds = uses.rounds(*kind).get(kind.first()..).unwrap_or(&[]);
-        let mut used: usize = 0;
-        for round in rounds {
-            used = used.saturating_add(usize::from(*round > 0));
-        }
-        let front = if place > 0 { ", " } else { "" };
-        let (word, all) = (kind.word(0), rounds.len());
+        let (front, word) = (if place > 0 { ", " } else { "" }, kind.word(0));
+        let (all, used) = counts_of(uses, *kind);
         write!(out, "{front}{word} {used} of {all}")?;
     }
     writeln!(out)?;
     let mut is_all = true;
     for kind in &KINDS {
+        let (all, used) = counts_of(uses, *kind);
+        let (unused, word) = (all.saturating_sub(used), kind.word(0));
+        is_all = is_all && unused == 0;
+        if !listed.has(*kind, unused) {
+            writeln!(out, "not used: {unused} {word}; --{word} lists them")?;
+            continue;
+        }
         for (number, round) in uses.rounds(*kind).iter().enumerate() {
             if *round == 0 && number >= kind.first() {
-                is_all = false;
                 write!(out, "not used: ")?;
                 elements.put_line(out, *kind, number)?;
             }

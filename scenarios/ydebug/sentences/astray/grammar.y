@@ -1,0 +1,3 @@
+%token A B
+%%
+s: s s | s A s | B | ;
