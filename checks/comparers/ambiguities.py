@@ -29,6 +29,11 @@ NO_OFFER = "  Unless the grammar is ambiguous here, each choice loses sentences,
 HINT = re.compile(r"  To (?:choose|shift|reduce|do)\b|  Or give rule ")
 ROOT = re.compile(r"( +)(\S+)  rule (\d+)")
 LEAVES = re.compile(r"( +)(\S.*)")
+# What is said where no sentence with two trees was found, and how far all of them were gone over.
+IN_VAIN = re.compile(
+    r"  (?:No sentence with two trees was found|"
+    r"None of the sentences of up to (\d+) tokens \((\d+)\) has two trees here)\."
+)
 REFUSED = re.compile(r"    The tables refuse it at (?:token (\d+)|its end)\.")
 INDENT, STEP = 4, 2
 # The most steps of a parse that is looked at.
@@ -289,9 +294,9 @@ def compared(ydebug, room, rng, counts):
     """What is wrong with the sentences told of one grammar; nothing where all is well."""
     grammar = productive(rng)
     (Path(room) / "grammar.y").write_text(grammar.text)
-    made = ran([ydebug, "conflicts", "grammar.y"], room)
+    made = ran([ydebug, "conflicts", "--all", "grammar.y"], room)
     counts["conflicts"] += made.stdout.count(": warning: conflict ")
-    counts["searches in vain"] += made.stdout.count("No sentence with two trees")
+    counts["searches in vain"] += len(IN_VAIN.findall(made.stdout))
     wrong = differences(grammar, made.stdout, counts)
     return [f"{grammar.text}{wrong}\n{made.stderr}"] if wrong or made.returncode else []
 

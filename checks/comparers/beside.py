@@ -6,14 +6,16 @@ from copy import copy
 from checks.comparers.causes import changed
 from checks.shared.spelling import WARNED
 
-ALSO = re.compile(r"  In a line of %left after all others, that also settles conflicts? (.*)\.")
+ALSO = re.compile(
+    r"  In a line of %left after all others, what the first hint names also settles conflicts? (.*)\."
+)
 HEAD = re.compile(WARNED + r"conflict (\d+): state (\d+) on (\S+): ")
 OTHERS = re.compile(r"  (The same|Also) on \d+ other tokens?, conflicts? (.*):")
 BEGINS = re.compile(r"  (\S+) can begin what comes next in:")
 ITEM = re.compile(r"    rule (\d+) (?:\(line \d+\) )? ?(.*)")
 DOTS = ", .."
 OWN = re.compile(
-    r"  To choose, write %nonassoc LOW above (%nonassoc|the line of) (\S+), "
+    r"  To choose, write %right LOW\w* above (%right|the line of) (\S+), "
     r"and %prec LOW at the end of rule (\d+): .*"
 )
 # What the other hints name: the tokens that get lines.
@@ -37,7 +39,7 @@ def numbers_in(text):
 def asked_by(line):
     """The tokens and the rules that a hint gives precedences to; nothing for no such hint."""
     if own := OWN.fullmatch(line):
-        return [own[2]] if own[1] == "%nonassoc" else [], [int(own[3])]
+        return [own[2]] if own[1] == "%right" else [], [int(own[3])]
     found = next(filter(None, (it.fullmatch(line) for it in NAMED)), None)
     return (list(found.groups()), []) if found else None
 

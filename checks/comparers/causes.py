@@ -132,8 +132,8 @@ def wrong_causes(checked, text):
     head = text.split("\n\n")[0]
     changes, pairs = CHANGE.findall(head), PAIR.findall(head)
     total = counted(checked.tables)
-    if "groups\n" not in head + "\n":
-        return "causes of one group" if changes or pairs else None
+    if "groups\n" not in head + "\n" and not (changes or pairs):
+        return None
     return (
         wrong_changes(checked.grammar, changes, total)
         or wrong_pairs(checked, pairs, total)

@@ -285,7 +285,9 @@ def wrong_kinds(checked, parts, text):
     sizes = [1 + len(others_in(part, names)) for part in parts]
     listed = sum(map(mul, sizes, map(states_in, parts))) + len(cells)
     fits = listed <= told[0] if cells else listed == told[0]
-    if told != [len(checked.cells), sum(sizes) + len(cells)] or not fits:
+    # where all are sought, groups are the parts
+    groups = told[1] == len(parts) if not cells else told[1] <= sum(sizes) + len(cells)
+    if told[0] != len(checked.cells) or not groups or not fits:
         return f"{len(checked.cells)} cells, {sizes} kinds, {len(cells)} unsought, told {told}"
     if len(cells) != (int(unsought[1]) if unsought else 0) or set(cells) - checked.cells.keys():
         return f"unsought {cells}"
@@ -336,7 +338,7 @@ def compared(ydebug, room, rng, counts):
     """What is wrong with what is said of one grammar; nothing where all is well."""
     grammar = productive(rng)
     (Path(room) / "grammar.y").write_text(grammar.text)
-    made = ran([ydebug, "conflicts", "grammar.y"], room)
+    made = ran([ydebug, "conflicts", "--all", "grammar.y"], room)
     for it, words in COUNTED.items():
         counts[it] += sum(map(made.stdout.count, words))
     wrong = differences(grammar, made.stdout)

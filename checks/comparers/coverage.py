@@ -430,7 +430,7 @@ def compared(ydebug, room, rng, counts):
     for at, tokens in enumerate(lists):
         (Path(room) / f"{at}").write_text(machine.names(tokens) + "\n")
     files = [str(at) for at in range(len(lists))]
-    made = ran([ydebug, "cover", "grammar.y", *files], room)
+    made = ran([ydebug, "cover", "grammar.y", *files, "--states", "--actions"], room)
     wrong = wrong_cover(machine, lists, made.stdout)
     return [f"{grammar.text}cover: {wrong}\n{made.stderr}"] if wrong or made.returncode else []
 

@@ -73,7 +73,7 @@ def wrong_counts(text, found):
     """What is wrong with the counts."""
     told = COUNTS.match(text)
     counts = tuple(map(int, told.groups())) if told else (0, 0, 0, 0)
-    ours = (*(found[it] for it in ("shift_reduce", "reduce_reduce", "cells")), len(found["kinds"]))
+    ours = (*(found[it] for it in ("shift_reduce", "reduce_reduce", "cells")), len(found["causes"]))
     return None if counts == ours else f"counts {ours}, told {counts}"
 
 
@@ -210,7 +210,9 @@ def wrong_cause(cause, kinds):
         at = kind["state"], kind["states"], kind["last"]
         fits = fits and lost == cause["loses"] and at == (states[0], len(states), states[-1])
         fits = fits and cause["kind"] == f"{kind['taken']}/reduce"
-    fits = fits and (cause["offer"] == "hints" or not (cause["hints"] or cause["ambiguous"]))
+    fits = fits and (cause["offer"] == "hints" or not cause["hints"])
+    fits = fits and (cause["offer"] in ("hints", "idiom") or not cause["ambiguous"])
+    fits = fits and (cause["offer"] == "idiom") == bool(cause["mend"] and cause["mend"]["idiom"])
     taken = {it["action"] for it in cause["rivals"] if it["taken"]}
     return None if fits and taken == {ours[0]["taken"]} else f"{ours}, told {cause}"
 
@@ -280,7 +282,7 @@ def wrong_offers(causes):
     """What is wrong with what is offered: hints for a sentence with two trees, and none where each
     rival has one of its own."""
     for cause in causes:
-        is_known = cause["ambiguous"] or cause["sentences"]
+        is_known = (cause["ambiguous"] or cause["sentences"]) and cause["offer"] != "idiom"
         if is_known and (cause["offer"] == "hints") != cause["ambiguous"]:
             return f"offered {cause}"
     return None
@@ -314,7 +316,7 @@ def differences(source, text, document, lines):
 
 def wrong_report(ydebug, room):
     """What is wrong with what is said of the grammar of a folder."""
-    words = [ydebug, "conflicts", "grammar.y"]
+    words = [ydebug, "conflicts", "--all", "grammar.y"]
     made = [ran([*words, *it], room) for it in ([], ["--format=json"], ["--format=gcc"])]
     text, document, lines = made
     source = (Path(room) / "grammar.y").read_bytes()

@@ -5,11 +5,11 @@
 Each list of tokens must be an error at its last token and in the state that is told, with the stack
 and the tokens that could come, by the machine in Python; one of each grammar is also put into a
 session. It must be as short as the first list that a search over all stacks, the shortest lists
-first, comes to, with a last token of no higher number; no state that this search finds may be
-without a list. Wrong inputs at random must
-be detected in states with a list. A file of messages that is made so must be taken as complete, and
-must stay as it is when it is written anew. The first difference ends the run. The last line is
-`N passed, M failed`: grammars.
+first, comes to, and end in the token that ends the fewest lists of the states before; no state that
+this search finds may be without a list. States at which the same tokens could come must have one
+block, with `--states` one each. Wrong inputs at random must be detected in states with a list. A
+file of messages that is made so must be taken as complete, and must stay as it is when it is
+written anew. The first difference ends the run. The last line is `N passed, M failed`: grammars.
 """
 import random
 import re
@@ -25,6 +25,8 @@ from checks.shared.tables import Tables
 from checks.shared.tally import Tally
 
 BLOCK = re.compile(r"(?m)^(?!#)(.+)\n## state (\d+)\n((?:##.*\n)*)")
+MESSAGE = re.compile(r"(?m)^unexpected \$0, expected \$expected$")
+WANTED = re.compile(r"(?m)^## (?:expected|unknown ).*\n")
 TAIL = re.compile(r"(?m)^## (no error, since [^:]*|not found [^:]*|inputs of [^:]*):(.*)$")
 HEAD = re.compile(r"## .*: an error can be detected in (\d+) of (\d+) states\.\n")
 # What a message calls an entry of the stack.
@@ -77,14 +79,9 @@ class Machine:
         return [it for it in self.inputs() if self.move(stack, it)[0] in ("s", "acc")]
 
 
-def rank(tokens, last):
-    """What comes first of lists: fewer tokens, and a lower number of the last one, the end last."""
-    return tokens, last == END, last
-
-
 def shortest(machine):
-    """For each state the rank of a shortest list whose last token it detects, up to a length up to
-    which all lists were tried; and that length."""
+    """For each state the length of a shortest list whose last token it detects, with all such last
+    tokens, up to a length up to which all lists were tried; and that length."""
     found, seen, stacks = {}, {()}, [()]
     for length in range(1, MOST_LENGTH + 1):
         after = []
@@ -92,8 +89,9 @@ def shortest(machine):
             for token in machine.inputs():
                 kind, to = machine.move(stack, token)
                 if kind == "error":
-                    state, ours = to[-1] if to else 0, rank(length, token)
-                    found[state] = min(found.get(state, ours), ours)
+                    least, last = found.setdefault(to[-1] if to else 0, (length, set()))
+                    if least == length:
+                        last.add(token)
                 if kind == "s" and to not in seen:
                     seen.add(to)
                     after.append(to)
@@ -109,11 +107,16 @@ class Told:
     def __init__(self, text, names):
         text = re.sub(r"\n##  {8,}", " ", text)
         self.head = [int(it) for it in HEAD.match(text).groups()]
-        self.lists, self.states = {}, []
-        for words, state, comments in BLOCK.findall(text):
-            tokens = [names.index(it) for it in names_of(words.encode())]
-            self.lists[int(state)] = tokens, comments
-            self.states.append(int(state))
+        self.lists, self.states, self.blocks = {}, [], []
+        for block in MESSAGE.split(text):
+            found, wanted = BLOCK.findall(block), ""
+            for words, state, comments in found:
+                tokens = [names.index(it) for it in names_of(words.encode())]
+                # below an input stand the tokens that could come, unless it is as the one before
+                wanted = "".join(WANTED.findall(comments)) or wanted
+                self.lists[int(state)] = tokens, WANTED.sub("", comments) + wanted
+            self.states += [int(state) for _, state, _ in found]
+            self.blocks += [[int(state) for _, state, _ in found]] if found else []
         self.without = {}
         for reason, numbers in TAIL.findall(text):
             self.without |= {int(it): reason for it in numbers.split()}
@@ -153,12 +156,32 @@ def wrong_states(machine, told):
         return "not each state is told once"
     if told.head != [len(told.lists), len(states)]:
         return "the counts"
-    found, tried = shortest(machine)
-    ranks = {state: rank(len(it), it[-1]) for state, (it, _) in told.lists.items()}
+    (found, tried), uses = shortest(machine), Counter()
     for state in states:
-        ours, theirs = found.get(state), ranks.get(state)
-        if ours != theirs and (ours is not None or theirs[0] <= tried):
-            return f"state {state}: {theirs} for {ours}"
+        ours, (theirs, _) = found.get(state), told.lists.get(state, ([], ""))
+        length, last = ours or (None, ())
+        if theirs and ours is None and len(theirs) <= tried or ours and len(theirs) != length:
+            return f"state {state}: {theirs} for a length of {length}"
+        if ours and theirs[-1] != min(last, key=lambda it: (uses[it], it == END, it)):
+            return f"state {state}: {theirs} for a last token of {last}"
+        uses.update(theirs[-1:])
+    return None
+
+
+def wrong_blocks(machine, told, alone):
+    """What is wrong with which states stand in one block: those at which the same tokens could
+    come, or each by itself."""
+    if alone:
+        return None if all(len(it) == 1 for it in told.blocks) else "a block of several states"
+    names, seen = machine.grammar.names, set()
+    for block in told.blocks:
+        wanted = {
+            tuple(tuple(told.listed(state, title, names)[0]) for title in ("expected", "unknown"))
+            for state in block
+        }
+        if len(wanted) != 1 or wanted & seen:
+            return f"the block of {block}"
+        seen |= wanted
     return None
 
 
@@ -186,10 +209,11 @@ def wrong_random(machine, told, rng):
     return None
 
 
-def differences(grammar, text, rng):
-    """What is wrong with what was told of a grammar."""
+def differences(grammar, text, rng, alone=False):
+    """What is wrong with what was told of a grammar, each state in a block of its own or not."""
     machine, told = Machine(Tables(grammar)), Told(text, grammar.names)
     wrong = [wrong_states(machine, told), wrong_reason(machine, told)]
+    wrong += [wrong_blocks(machine, told, alone)]
     wrong += [wrong_list(machine, told, state) for state in told.lists]
     wrong += [wrong_random(machine, told, rng)]
     return next(filter(None, wrong), None)
@@ -225,8 +249,9 @@ def wrong_of(room, programs, rng, counts):
     ydebug, ystep = programs
     grammar = productive(rng)
     (room / "grammar.y").write_text(grammar.text)
-    made = ran([ydebug, "errors", "grammar.y"], room)
-    wrong = "a status" if made.returncode else differences(grammar, made.stdout, rng)
+    alone = rng.random() < 0.2
+    made = ran([ydebug, "errors", "grammar.y", *["--states"] * alone], room)
+    wrong = "a status" if made.returncode else differences(grammar, made.stdout, rng, alone)
     told = Told(made.stdout, grammar.names) if not wrong else None
     if told:
         counts.update(told.without.values(), lists=len(told.lists))

@@ -153,11 +153,11 @@ def by_low(trial, line, token, rule):
     named = {int(rule): LOW}
     if line == "the line of":
         at = trial.place(token)
-        yield put(trial.levels, at, "nonassoc", LOW), named, "shift"
-        yield put(trial.levels, at + 1, "nonassoc", LOW), named, int(rule)
+        yield put(trial.levels, at, "right", LOW), named, "shift"
+        yield put(trial.levels, at + 1, "right", LOW), named, int(rule)
     else:
-        yield from pair(trial, token, LOW, ["nonassoc"], "shift", named)
-        yield from pair(trial, LOW, token, ["nonassoc"], int(rule), named)
+        yield from pair(trial, token, LOW, ["right"], "shift", named)
+        yield from pair(trial, LOW, token, ["right"], int(rule), named)
 
 
 def by_right_there(trial, token):
@@ -174,9 +174,9 @@ def by_later(trial, token, other, kinds):
 
 def by_all(trial, needs_line):
     """A %prec for each rule."""
-    levels = [*trial.levels, ("nonassoc", [trial.token])] if needs_line else trial.levels
+    levels = [*trial.levels, ("right", [trial.token])] if needs_line else trial.levels
     at = next(at for at, (_, listed) in enumerate(levels) if trial.token in listed)
-    lines = put(put(levels, at + 1, "nonassoc", HIGH), at, "nonassoc", LOW)
+    lines = put(put(levels, at + 1, "right", HIGH), at, "right", LOW)
     yield lines, {rule: LOW for rule in trial.rules}, "shift"
     for rule in trial.rules:
         yield lines, {it: HIGH if it == rule else LOW for it in trial.rules}, rule
@@ -188,8 +188,8 @@ TO_CHOOSE = {
     r"name (\S+) and (\S+) on two lines of (.*): \S+ on the later one shifts, .*": by_two,
     r"name (\S+) on a line of (.*): later than (\S+) shifts .* by rule (\d+)\.": by_token_line,
     r"name (\S+) on a line of .*: earlier than (\S+) shifts .* by rule (\d+)\.": by_rule_line,
-    r"write %nonassoc LOW above (the line of|%nonassoc) (\S+), and .* rule (\d+): .*": by_low,
-    r"(name \S+ on a line of %nonassoc, and )?give each of these rules a %prec: .*": by_all,
+    r"write %right LOW\w* above (the line of|%right) (\S+), and .* rule (\d+): .*": by_low,
+    r"(name \S+ on a line of %right, and )?give each of these rules a %prec: .*": by_all,
 }
 TO_SHIFT = {
     r"(\S+), name it in a line of %right\.": by_right,
@@ -295,7 +295,7 @@ def main(words):
         for _ in turns(given):
             draw = whole(rng, KINDS, may_end=False)
             (Path(room) / "grammar.y").write_text(draw.text())
-            made = ran([given.programs["ydebug"], "conflicts", "grammar.y"], room)
+            made = ran([given.programs["ydebug"], "conflicts", "--all", "grammar.y"], room)
             for kind, line, holds in judged(draw, made.stdout):
                 counts[kind] += 1
                 tally.take(kind, [] if holds else [f"{line}\n{draw.text()}"])

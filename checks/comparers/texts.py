@@ -58,7 +58,7 @@ NAMED = re.compile(
     r"|no token of the grammar has this name"
     r"|an input has tokens alone, and neither error nor \$end"
     r"|no directive of a SPEC; there are %skip, %keywords and %none)"
-    r"|text:\d+:\d+: error: (no line of the SPEC matches here: .+|unexpected (\S+|\".+\")[,;] .+)"
+    r"|text:\d+:\d+: error: (no line of the SPEC matches here: .+|unexpected (\S+|\".+\"|end of (input|line))[,;] .+)"
     r"|text: (accepted after \d+ steps|error: undecided after 1,000,000 steps)"
 )
 
@@ -143,10 +143,12 @@ class Spec:
         return tokens, end
 
     def called(self, token):
-        """What people are told of a token: its name, or the text that it always is."""
+        """What people are told of a token: the text that it always is, or its name, unless that says
+        little."""
         texts = [PLAIN.get(rule.pattern.decode()) for it, rule in self.rules if it == token]
         if not texts or None in texts or self.cut(texts[0].encode()) != ([(token, 0)], len(texts[0])):
-            return self.grammar.names[token]
+            name = self.grammar.names[token]
+            return {"$end": "end of input", r"'\012'": "end of line"}.get(name, name)
         shown = texts[0].replace("\\", r"\\").replace('"', r'\"')
         return f'"{shown}"'
 

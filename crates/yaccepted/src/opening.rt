@@ -69,13 +69,22 @@ pub fn open_counted<F: Files + AllocGlobal>(
     file: File<'_>,
     told: &mut Diagnostics,
 ) -> io::Result<Result<Counted, u8>> {
-    let (alloc, path) = (rt.alloc(), file.path);
-    let bytes = match grammar_bytes(rt, path) {
-        Ok(bytes) => bytes,
-        Err(error) => return undone(alloc, told, ("read", path), error).map(Err),
-    };
+    match grammar_bytes(rt, file.path) {
+        Ok(bytes) => open_bytes(rt.alloc(), file, bytes, told),
+        Err(error) => undone(rt.alloc(), told, ("read", file.path), error).map(Err),
+    }
+}
+
+/// Opens a grammar file of these bytes. Where it is refused, that is said, and the exit status is
+/// the answer.
+pub fn open_bytes(
+    alloc: Global,
+    file: File<'_>,
+    bytes: Vec<u8>,
+    told: &mut Diagnostics,
+) -> io::Result<Result<Counted, u8>> {
     let source = Source {
-        path,
+        path: file.path,
         bytes: &bytes,
     };
     let (opened, expected) = match open_grammar(alloc, told, source, file.dialect)? {

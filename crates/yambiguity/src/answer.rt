@@ -1,9 +1,12 @@
 //! The answer for two rivals of a conflict: one sentence with two trees, or a sentence for each.
 
 use crate::alone::alone_of;
-use crate::choice::{Cell, Choice};
+use crate::choice::Choice;
+use crate::forks::{Fork, fork_of, is_late};
 use crate::leaves::{Leaves, MOST_TOKENS};
 use crate::pairs::{Joined, Search};
+pub use crate::scene::Rivals;
+use crate::scene::{Scene, form_of, way_of};
 use crate::stacks::{Deed, Stacks};
 use crate::trees::Trees;
 use crate::walker::{Claim, is_derivation};
@@ -12,9 +15,7 @@ use yexplain::reads::Made;
 use ylalr::{END, ERROR};
 use yparse::{Tokens, Verdict, judge};
 use ysearch::budget::Share;
-use ysearch::completion::{End, Ties, end_over, rest_of};
-use ysearch::search::{Finder, Found, Target};
-use ysearch::shortest::Shortest;
+use ysearch::search::{Finder, Found};
 use ysymbols::Sym;
 use ytables::Tables;
 
@@ -26,19 +27,11 @@ const ALL_STEPS: usize = 200_000;
 
 const LEAST_STEPS: usize = 1_000;
 
+/// How many steps all parses of sentences in all ways may take in a run.
+const ALL_PARSES: usize = 60_000;
+
 /// The most pairs of parses that come to one stack of which sentences are made.
 const MOST_JOINED: usize = 20;
-
-/// A conflict, and two of its rivals.
-#[derive(Clone, Copy, Drop)]
-pub struct Rivals {
-    /// The state and the token.
-    pub cell: Cell,
-    /// What is taken.
-    pub first: Choice,
-    /// A rule that isn't.
-    pub second: usize,
-}
 
 /// A sentence that a rival derives: this was checked.
 #[derive(Drop)]
@@ -52,6 +45,10 @@ pub struct Sentence {
     /// The place of the token that the tables refuse, counted from 1, where that was looked at and
     /// they refuse the sentence; the end's is one after that of the last token.
     pub refused: Option<usize>,
+    /// Its tree.
+    pub tree: usize,
+    /// How many leaves of the tree stand before the conflict, as they are drawn.
+    pub leaves: usize,
 }
 
 /// One sentence with two trees, one by each of two rivals: this was checked.
@@ -75,8 +72,10 @@ pub struct Answer {
     /// Where there is none, a sentence for each rival; one that is too long, or has `error`, is
     /// left out.
     pub sentences: Vec<Sentence>,
-    /// Within how many steps one with two trees was sought, where it was.
-    pub steps: Option<usize>,
+    /// Whether one with two trees was sought.
+    pub is_sought: bool,
+    /// Whether it was, and none of the given sentences has two trees here.
+    pub is_whole: bool,
 }
 
 /// What seeks sentences for the conflicts of a run.
@@ -88,86 +87,21 @@ pub struct Ambiguities {
     leaves: Leaves,
     /// How many steps searches for two trees may take.
     steps: Share,
+    /// How many parses of sentences in all ways may.
+    parses: usize,
     /// Whether sentences are still judged: until the parse of one takes too long.
     judges: bool,
 }
 
-/// What sentences are made by for a conflict: the tables, the shortest sentences, the rivals, and a
-/// way to the conflict.
-#[derive(Clone, Copy)]
-struct Scene<'a> {
-    tables: &'a Tables,
-    shortest: &'a Shortest,
-    rivals: Rivals,
-    way: &'a [Sym],
-}
-
-/// The symbols that a parse shifts.
-fn form_of(alloc: Global, deeds: &[Deed]) -> Made<Vec<Sym>> {
-    let mut form = Vec::new(alloc);
-    for deed in deeds {
-        if let Deed::Shift(symbol) = deed {
-            form.push(*symbol)?;
+impl Answer {
+    /// Nothing is found.
+    fn none(alloc: Global) -> Answer {
+        Answer {
+            twins: None,
+            sentences: Vec::new(alloc),
+            is_sought: false,
+            is_whole: false,
         }
-    }
-    Ok(form)
-}
-
-impl Rivals {
-    /// The cell as one that a way is sought to, on which these rules can be reduced.
-    fn target(self, first: Option<usize>, second: Option<usize>) -> Target {
-        Target {
-            state: self.cell.state,
-            token: self.cell.token,
-            first,
-            second,
-        }
-    }
-}
-
-impl Scene<'_> {
-    /// What a parse does from a stack on until its input can end, with as few tokens as there can
-    /// be: for each rest of an item it shifts the symbols, and reduces.
-    fn rest(self, alloc: Global, stacks: &Stacks, stack: usize) -> Made<Option<Vec<Deed>>> {
-        let (states, automaton) = (stacks.states(alloc, stack)?, self.tables.automaton());
-        let is_end = self.rivals.cell.token == END;
-        // nothing follows after the end, which counts for a token
-        let most = if is_end { 0 } else { MOST_TOKENS };
-        let (shortest, most) = (self.shortest, most.saturating_add(1));
-        let end = end_over(alloc, shortest, automaton, &states, Ties::First, most)?;
-        let End { items, .. } = end;
-        let Some(items) = items else {
-            return Ok(None);
-        };
-        let mut deeds = Vec::new(alloc);
-        for item in &items {
-            if item.rule > 0 {
-                for symbol in rest_of(automaton.grammar(), *item) {
-                    deeds.push(Deed::Shift(*symbol))?;
-                }
-                deeds.push(Deed::Reduce(item.rule))?;
-            }
-        }
-        Ok(Some(deeds))
-    }
-
-    /// What a parse does in all: it comes to the conflict, makes a choice, goes on, and ends.
-    fn course(
-        self,
-        alloc: Global,
-        choice: Choice,
-        (deeds, rest): (&[Deed], &[Deed]),
-    ) -> Made<Vec<Deed>> {
-        let mut course = Vec::new(alloc);
-        for symbol in self.way {
-            course.push(Deed::Shift(*symbol))?;
-        }
-        if let Some(rule) = choice.rule() {
-            course.push(Deed::Reduce(rule))?;
-        }
-        course.extend_from_slice(deeds)?;
-        course.extend_from_slice(rest)?;
-        Ok(course)
     }
 }
 
@@ -179,24 +113,22 @@ impl Ambiguities {
             trees: Trees::new(alloc),
             leaves: Leaves::new(alloc),
             steps: Share::new(ALL_STEPS, 8, (LEAST_STEPS, MOST_STEPS)),
+            parses: ALL_PARSES,
             judges: true,
         }
     }
 
-    /// What can be found for two rivals: where one way allows both, a sentence with two trees, or
-    /// else, where these are wanted, one for each on that way; where none does, a sentence for each.
+    /// What can be found for two rivals: where one way allows both, a sentence with two trees, also
+    /// among some that are given, or else, where these are wanted, one for each on that way; where
+    /// none does, a sentence for each.
     pub fn seek(
         &mut self,
         tables: &Tables,
         finder: &mut Finder,
         (rivals, are_both): (Rivals, bool),
-        wants_each: bool,
+        (wants_each, given): (bool, &[Vec<Sym>]),
     ) -> Made<Answer> {
-        let mut answer = Answer {
-            twins: None,
-            sentences: Vec::new(self.alloc),
-            steps: None,
-        };
+        let mut answer = Answer::none(self.alloc);
         let choices = [rivals.first, Choice::Reduce(rivals.second)];
         if !are_both && !wants_each {
             return Ok(answer);
@@ -216,13 +148,133 @@ impl Ambiguities {
                 way: &way,
             };
             self.seek_twins(scene, &mut answer)?;
-            if answer.twins.is_none() && wants_each {
+            if answer.twins.is_none() {
                 for choice in choices {
                     self.add(scene, choice, &mut answer)?;
+                }
+                self.seek_forks(scene, given, &mut answer)?;
+                if !wants_each {
+                    answer.sentences.clear();
                 }
             }
         }
         Ok(answer)
+    }
+
+    /// Seeks one sentence with two trees among those of the rivals, and then among the given ones:
+    /// each is parsed in all ways.
+    fn seek_forks(
+        &mut self,
+        scene: Scene<'_>,
+        given: &[Vec<Sym>],
+        answer: &mut Answer,
+    ) -> Made<()> {
+        let mut is_whole = true;
+        for place in 0..answer.sentences.len() {
+            let tokens = match answer.sentences.get(place) {
+                Some(sentence) => Vec::from_slice(self.alloc, &sentence.tokens)?,
+                None => break,
+            };
+            if answer.twins.is_none() {
+                answer.twins = self.forked(scene, &tokens, &mut is_whole)?;
+            }
+        }
+        is_whole = true;
+        let token = scene.rivals.cell.token;
+        for tokens in given {
+            if answer.twins.is_none() && (token == END || tokens.contains(&token)) {
+                answer.twins = self.forked(scene, tokens, &mut is_whole)?;
+            }
+        }
+        if answer.twins.is_some() {
+            answer.sentences.clear();
+        }
+        answer.is_whole = is_whole;
+        Ok(())
+    }
+
+    /// A sentence with two trees, one by each rival, where it is one; notes where that was not
+    /// looked at whole.
+    fn forked(
+        &mut self,
+        scene: Scene<'_>,
+        tokens: &[Sym],
+        is_whole: &mut bool,
+    ) -> Made<Option<Twins>> {
+        if self.parses == 0 {
+            *is_whole = false;
+            return Ok(None);
+        }
+        let (tables, rivals) = (scene.tables, scene.rivals);
+        let choices = (rivals.first, Choice::Reduce(rivals.second));
+        let (fork, steps) = fork_of(self.alloc, tables, tokens, rivals.cell, choices)?;
+        self.parses = self.parses.saturating_sub(steps);
+        match fork {
+            Some(fork) => self.fork_twins(scene, tokens, &fork),
+            None => {
+                *is_whole = *is_whole && !is_late(steps);
+                Ok(None)
+            }
+        }
+    }
+
+    /// The trees of two parses of a sentence, checked.
+    fn fork_twins(&mut self, scene: Scene<'_>, tokens: &[Sym], fork: &Fork) -> Made<Option<Twins>> {
+        let (alloc, rivals) = (self.alloc, scene.rivals);
+        let way = way_of(alloc, scene.tables, &fork.before)?;
+        let scene = scene.over(&way);
+        let second = Choice::Reduce(rivals.second);
+        let one = self.claimed(scene, rivals.first, (&fork.first, tokens, fork.dot))?;
+        let other = self.claimed(scene, second, (&fork.second, tokens, fork.dot))?;
+        let (Some((sentence, one)), Some((_, other))) = (one, other) else {
+            return Ok(None);
+        };
+        if self.trees.are_equal(alloc, one, other)? {
+            return Ok(None);
+        }
+        let (one, other, before) = self.trees.least(alloc, (one, other))?;
+        Ok(Some(Twins {
+            sentence,
+            second,
+            trees: (one, other),
+            dot: fork.dot.saturating_sub(before),
+        }))
+    }
+
+    /// The sentence of a parse over its tokens, and its tree, where the rival stands in it.
+    fn claimed(
+        &mut self,
+        scene: Scene<'_>,
+        choice: Choice,
+        (course, tokens, dot): (&[Deed], &[Sym], usize),
+    ) -> Made<Option<(Sentence, usize)>> {
+        let (alloc, grammar) = (self.alloc, scene.tables.automaton().grammar());
+        let trees = &mut self.trees;
+        let Some(leaves) = self.leaves.all(trees, grammar, scene.shortest, tokens)? else {
+            return Ok(None);
+        };
+        let Some(tree) = self.trees.made(alloc, grammar, course, &leaves)? else {
+            return Ok(None);
+        };
+        let claim = Claim {
+            tokens,
+            dot,
+            token: scene.rivals.cell.token,
+            way: scene.way,
+            choice,
+        };
+        if !is_derivation(alloc, grammar, &self.trees, tree, claim)? || tokens.contains(&ERROR) {
+            return Ok(None);
+        }
+        let sentence = Sentence {
+            choice,
+            tokens: Vec::from_slice(alloc, tokens)?,
+            dot,
+            refused: None,
+            tree,
+            leaves: dot,
+        };
+        Ok(Some((sentence, tree)))
     }
 
     /// A sentence for each of two rivals, where one is found.
@@ -232,11 +284,7 @@ impl Ambiguities {
         finder: &mut Finder,
         rivals: Rivals,
     ) -> Made<Vec<Sentence>> {
-        let mut answer = Answer {
-            twins: None,
-            sentences: Vec::new(self.alloc),
-            steps: None,
-        };
+        let mut answer = Answer::none(self.alloc);
         for choice in [rivals.first, Choice::Reduce(rivals.second)] {
             self.add_alone(tables, finder, (rivals, choice), &mut answer)?;
         }
@@ -285,7 +333,7 @@ impl Ambiguities {
             }
         }
         self.steps.spend(steps.saturating_sub(search.left));
-        answer.steps = Some(steps);
+        answer.is_sought = true;
         Ok(())
     }
 
@@ -352,6 +400,8 @@ impl Ambiguities {
             tokens,
             dot: before.len(),
             refused: None,
+            tree,
+            leaves: scene.way.len(),
         };
         Ok(Some((sentence, tree)))
     }

@@ -13,11 +13,10 @@ use yexplain::sources::sources_of;
 use yexplain::why::{Question, explain};
 use yinput::Parse;
 use yinput::expected::{Wanted, expected};
-use ylists::kinds::{put_counts, put_named, put_states};
 use yparse::machine::Mode;
 use yparse::states::stack_states;
 use yprovenance::Reasons;
-use ysearch::groups::Conflicts;
+use yreports::brief::put_brief;
 use ysymbols::{Grammar, Sym};
 use yview::derivation::{SOME_FORMS, put_derivation, size_of_derivation};
 use yview::grammar_view::Rules;
@@ -29,11 +28,6 @@ use yview::tree_text::{SOME_LINES, put_tree, put_trees};
 
 /// The most bytes of a derivation that is written whole without a sign that this is meant.
 const LARGE: u64 = 100_000_000;
-
-/// How many kinds of conflicts are explained, and how many are named at most.
-const EXPLAINED: usize = 20;
-
-const NAMED: usize = 1_000;
 
 /// A parse that is looked at, and the page on which it is shown.
 #[derive(Drop)]
@@ -198,23 +192,10 @@ impl<W: Write> View<'_, W> {
         Ok(())
     }
 
-    /// The conflicts of the tables by kinds: each with a cell, the first 20 explained.
+    /// The conflicts of the tables by their causes, the first 20 explained.
     pub fn show_conflicts(&mut self) -> Made<()> {
         let parse = self.parse;
-        let (tables, lines) = (parse.session.tables(), &parse.lines);
-        let found = Conflicts::new(self.alloc, tables)?;
-        if found.cells == 0 {
-            self.page.line("The tables have no conflict.");
-            return Ok(());
-        }
-        put_counts(self.page, tables, &found);
-        for (kind, group) in found.groups.iter().take(EXPLAINED) {
-            // The page remembers a fault.
-            let _ = explain(self.page, kind.cell(*group, tables, lines));
-            put_states(self.page, *group);
-        }
-        put_named(self.page, tables, lines, &found, (EXPLAINED, NAMED));
-        Ok(())
+        put_brief(self.alloc, self.page, parse.session.tables(), &parse.lines)
     }
 
     /// A rule.

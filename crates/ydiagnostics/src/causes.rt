@@ -3,6 +3,7 @@
 
 use crate::hints::HintSheet;
 use crate::kinds::{named, names_of};
+use crate::mends::MendSheet;
 use crate::scene::Scene;
 use serde::Serialize;
 use yambiguity::answer::{Answer, Sentence};
@@ -10,6 +11,7 @@ use yambiguity::choice::Choice;
 use yexplain::reads::{Made, body_of, grammar_of, next_of};
 use yexplain::text::{ItemText, RuleText};
 use ylalr::Item;
+use ymends::mending::Mended;
 use yreports::blocks::{Block, category_of};
 use yreports::offer::Offer;
 use ysearch::groups::MOST_RIVALS;
@@ -81,8 +83,10 @@ pub struct CauseSheet {
     pub sentences: Vec<SentenceSheet>,
     /// What is offered: `hints`, or why nothing is.
     offer: &'static str,
+    /// What is known beside the rivals: an idiom, a change that was tried, the second token.
+    mend: Option<MendSheet>,
     /// How to choose otherwise.
-    hints: Vec<HintSheet>,
+    pub hints: Vec<HintSheet>,
 }
 
 impl Drop for CauseSheet {
@@ -90,7 +94,7 @@ impl Drop for CauseSheet {
     fn drop(self) {
         let_go!(self: CauseSheet {
             kind, category, kinds, states, tokens, loses, rivals, ambiguous, sentences, offer,
-            hints
+            mend, hints
         });
     }
 }
@@ -216,7 +220,12 @@ impl Scene<'_> {
     }
 
     /// The cause that a block is, with sentences for its rivals.
-    pub fn cause(self, block: &Block, answers: &[Answer], offer: Offer) -> Made<CauseSheet> {
+    pub fn cause(
+        self,
+        block: &Block,
+        answers: &[Answer],
+        (offer, mended): (Offer, Option<&Mended>),
+    ) -> Made<CauseSheet> {
         let (alloc, kind, group) = (self.alloc, &block.first.kind, block.first.group);
         let (mut kinds, mut tokens) = (Vec::new(alloc), Vec::new(alloc));
         let mut hints = Vec::new(alloc);
@@ -244,6 +253,10 @@ impl Scene<'_> {
             ambiguous: answers.iter().any(|answer| answer.twins.is_some()),
             sentences: self.sentences(answers)?,
             offer: offer.name(),
+            mend: match mended {
+                Some(mended) => Some(self.mend_sheet(mended)?),
+                None => None,
+            },
             hints,
         })
     }

@@ -9,8 +9,9 @@ use yexplain::mends::{Mend, mend_of};
 use yexplain::reads::{Made, grammar_of};
 use yexplain::rivals::Kinds;
 use yexplain::text::Name;
+use ymends::changed_text::directive_of;
 use yreports::blocks::{Class, Loss};
-use ysymbols::{Associativity, Sym};
+use ysymbols::Sym;
 
 /// The words of lines.
 const LEFT: &str = "%left";
@@ -37,17 +38,17 @@ const ALL_KINDS: Kinds = Kinds {
 #[derive(Drop, Serialize)]
 pub struct EditSheet {
     /// `shift` or `reduce`: what is done then.
-    action: &'static str,
+    pub action: &'static str,
     file: String,
-    line: usize,
-    column: usize,
+    pub line: usize,
+    pub column: usize,
     end_line: usize,
     end_column: usize,
-    text: String,
+    pub text: String,
     /// On how many sentences it was tried, how many of these are refused with it, and the first of
     /// them; `None` where it wasn't tried.
-    tried: Option<usize>,
-    lost: usize,
+    pub tried: Option<usize>,
+    pub lost: usize,
     example: Vec<String>,
 }
 
@@ -69,7 +70,7 @@ pub struct HintSheet {
     /// The places of further kinds that it settles.
     also: Vec<usize>,
     /// Changes of the text that do it for the first token, where they are known.
-    edits: Vec<EditSheet>,
+    pub edits: Vec<EditSheet>,
 }
 
 /// What a hint says: what it takes, the token that gives the rule its precedence, words that shift
@@ -151,11 +152,7 @@ impl Scene<'_> {
         let Some(column) = mend.at.column else {
             return Ok(None);
         };
-        let word = match mend.kind {
-            Associativity::Left => LEFT,
-            Associativity::Right => RIGHT,
-            Associativity::Nonassoc => NONASSOC,
-        };
+        let word = directive_of(mend.kind);
         let (alloc, grammar) = (self.alloc, grammar_of(self.tables));
         let first = Name(grammar, mend.first);
         let text = match mend.second {
@@ -224,8 +221,8 @@ impl Scene<'_> {
                 Some(giver) => Some(named(alloc, grammar, giver)?),
                 None => None,
             },
-            shifts: words_of(alloc, said.shifts)?,
-            reduces: words_of(alloc, said.reduces)?,
+            shifts: words_of(alloc, said.shifts.offered())?,
+            reduces: words_of(alloc, said.reduces.offered())?,
             own: said.own,
             also: Vec::from_slice(alloc, &class.also)?,
             edits,

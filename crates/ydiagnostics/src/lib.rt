@@ -8,15 +8,16 @@
 //! messages for them, and `document` writes all of it. `report` and `checking` are the runs.
 #![tactic(auto)]
 
-mod causes;
+pub mod causes;
 pub mod checking;
 mod common;
 mod document;
 pub mod format;
-mod hints;
+pub mod hints;
 mod inputs;
 mod kinds;
 pub mod late;
+mod mends;
 pub mod messaged;
 pub mod report;
 mod scene;

@@ -7,15 +7,16 @@ use crate::kinds::Shown;
 use crate::scene::Scene;
 use crate::sought::sought_for;
 use std::alloc::Global;
-use std::io::{self, Write};
+use std::io::{self, ErrorKind, Write};
 use std::rt::Files;
 use yaccepted::expected::{Counts, Expectation};
 use yaccepted::judged::{self, Judged, Telling, judge};
-use yaccepted::opening::{Counted, File, open_counted};
+use yaccepted::opening::{Counted, File, open_bytes, open_counted};
 use yexplain::reads::grammar_of;
 use yfaults::opening::Opened;
 use yfiles::category::Choice;
 use yfiles::diagnostic::{Diagnostics, Severity};
+use yfrontend::import::Dialect;
 use yparse::Session;
 use yreports::blocks::shown_of;
 use yreports::causes::causes_of;
@@ -89,14 +90,14 @@ fn sheet_of(
 }
 
 /// Tells the conflicts and the warnings of a grammar whose conflicts are judged, and gives the
-/// conflicts as data.
+/// conflicts as data, and the grammar again.
 fn tell_all(
     alloc: Global,
     told: &mut Diagnostics,
     asked: Asked<'_>,
     (opened, is_plain): (Opened, bool),
     judged: &Judged,
-) -> io::Result<ConflictSheet> {
+) -> io::Result<(ConflictSheet, Opened)> {
     let (path, accepted) = (asked.file.path, judged.is_accepted());
     let Opened { tables, lines } = opened;
     let warnings = warnings_of(alloc, path, &tables, &lines)?;
@@ -116,7 +117,8 @@ fn tell_all(
     };
     let sheet = sheet_of(alloc, told, (asked, shown), &mut session, accepted)?;
     told.take(warnings)?;
-    Ok(sheet)
+    let tables = session.into_tables();
+    Ok((sheet, Opened { tables, lines }))
 }
 
 /// Writes what is said of a grammar whose conflicts are judged, after what was told of its files,
@@ -145,7 +147,7 @@ fn put_judged<W: Write>(
         };
         listed.add_told(alloc, &mut told, telling)?;
     }
-    let sheet = tell_all(alloc, &mut told, asked, grammar, judged)?;
+    let (sheet, _) = tell_all(alloc, &mut told, asked, grammar, judged)?;
     let is_bad = told.judge_by(before, asked.choice) || is_surprised;
     let told = told.only(alloc, asked.choice.shown)?;
     let mut all = said(asked, u8::from(is_bad), &told);
@@ -193,4 +195,66 @@ pub fn run_report<F: Files + AllocGlobal, W: Write>(
             said(asked, status, &told).put(rt.alloc(), out, asked.format)
         }
     }
+}
+
+/// What is said of a grammar, and the grammar, where it is taken.
+#[derive(Drop)]
+pub struct Told {
+    /// What is said.
+    pub told: Diagnostics,
+    /// Its conflicts.
+    pub conflicts: Option<ConflictSheet>,
+    /// Its tables, and where things stand in its file.
+    pub opened: Option<Opened>,
+}
+
+impl Told {
+    /// What is said of a grammar that is refused.
+    fn refused(alloc: Global, choice: Choice, told: Diagnostics) -> io::Result<Told> {
+        let mut told = told;
+        told.judge(0, Severity::Error);
+        Ok(Told {
+            told: told.only(alloc, choice.shown)?,
+            conflicts: None,
+            opened: None,
+        })
+    }
+}
+
+/// What `run_report` says of a file with these bytes, where nothing but the file itself says which
+/// conflicts are accepted.
+pub fn told_of<F: Files + AllocGlobal>(rt: &F, path: &str, bytes: Vec<u8>) -> io::Result<Told> {
+    let (alloc, mut told) = (rt.alloc(), Diagnostics::new(rt.alloc()));
+    let Some(choice) = Choice::of(&[], &[]) else {
+        return Err(io::Error::from(ErrorKind::Other));
+    };
+    let asked = Asked {
+        file: File {
+            path,
+            dialect: Dialect::Seen,
+            comments: false,
+        },
+        accepted: judged::Asked {
+            grammar: path,
+            expect: None,
+            accept: None,
+            update: false,
+        },
+        choice,
+        format: Format::Gcc,
+    };
+    let Ok(counted) = open_bytes(alloc, asked.file, bytes, &mut told)? else {
+        return Told::refused(alloc, choice, told);
+    };
+    let Ok(judged) = judge(rt, asked.accepted, &counted, &mut told)? else {
+        return Told::refused(alloc, choice, told);
+    };
+    let is_plain = !matches!(counted.expected, Expectation::Directives(..));
+    let Counted { opened, .. } = counted;
+    let (conflicts, opened) = tell_all(alloc, &mut told, asked, (opened, is_plain), &judged)?;
+    Ok(Told {
+        told: told.only(alloc, choice.shown)?,
+        conflicts: Some(conflicts),
+        opened: Some(opened),
+    })
 }

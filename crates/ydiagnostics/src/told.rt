@@ -10,6 +10,8 @@ use yexplain::reads::grammar_of;
 use yexplain::text::{Name, Names, RuleText};
 use yfiles::diagnostic::{Diagnostic, Diagnostics, Note, Severity};
 use yfiles::place::Spot;
+use ymends::mending::Mended;
+use ymends::words::MendText;
 use yreports::blocks::{Block, category_of};
 use yreports::lost::put_losses;
 use yreports::offer::Offer;
@@ -84,6 +86,27 @@ fn rival_note(alloc: Global, rival: &RivalSheet) -> io::Result<Note> {
     Ok(Note { spot, text })
 }
 
+/// Adds the lines of a text as notes.
+fn help_lines(alloc: Global, one: &mut Diagnostic, text: &[u8]) -> io::Result<()> {
+    for line in text
+        .split(|byte| *byte == b'\n')
+        .filter(|line| !line.is_empty())
+    {
+        one.help(Vec::from_slice(alloc, line.trim_ascii_start())?)?;
+    }
+    Ok(())
+}
+
+impl<'a> Scene<'a> {
+    /// What is said of idioms and changes with.
+    fn mend_text(self) -> MendText<'a> {
+        MendText {
+            grammar: grammar_of(self.tables),
+            lines: self.shown.lines,
+        }
+    }
+}
+
 impl Scene<'_> {
     /// A kind, alone or with others, as what is said of the first rule that isn't taken.
     fn head(self, cells: (&Kind, Group), tokens: &[String]) -> io::Result<Diagnostic> {
@@ -148,6 +171,7 @@ impl Scene<'_> {
         block: &Block,
         cause: &CauseSheet,
         (finding, offer): (Option<&Finding>, Offer),
+        mended: Option<&Mended>,
     ) -> io::Result<Diagnostic> {
         let mut one = self.head((&block.first.kind, block.first.group), &cause.tokens)?;
         if one.severity == Severity::Note {
@@ -161,6 +185,12 @@ impl Scene<'_> {
         for reason in offer.reasons() {
             one.help(Vec::from_slice(self.alloc, reason.as_bytes())?)?;
         }
+        if let Some(mended) = mended {
+            let mut text = Vec::new(self.alloc);
+            let (words, idioms) = (self.mend_text(), self.sought.idioms.as_slice());
+            words.put(&mut text, idioms, mended)?;
+            help_lines(self.alloc, &mut one, &text)?;
+        }
         for class in &block.classes {
             let (true, Some(entry)) = (offer.has_hints(), class.entries.first()) else {
                 continue;
@@ -170,12 +200,7 @@ impl Scene<'_> {
                 .cell(self.tables, self.shown.lines)
                 .put_hint(&mut text)?;
             put_losses(&mut text, grammar_of(self.tables), &class.losses)?;
-            for line in text
-                .split(|byte| *byte == b'\n')
-                .filter(|line| !line.is_empty())
-            {
-                one.help(Vec::from_slice(self.alloc, line.trim_ascii_start())?)?;
-            }
+            help_lines(self.alloc, &mut one, &text)?;
         }
         Ok(one)
     }
@@ -191,9 +216,13 @@ impl Scene<'_> {
                 Some(answers) => answers,
                 None => &[],
             };
-            let offer = finding.map_or(Offer::Hints, |finding| Offer::of(finding, answers));
-            let cause = self.cause(block, answers, offer)?;
-            told.add(self.told(block, &cause, (finding, offer))?)?;
+            let mut offer = finding.map_or(Offer::Hints, |finding| Offer::of(finding, answers));
+            let mended = self.sought.mended.get(place);
+            if let Some(mended) = mended {
+                offer = offer.beside(mended);
+            }
+            let cause = self.cause(block, answers, (offer, mended))?;
+            told.add(self.told(block, &cause, (finding, offer), mended)?)?;
             causes.push(cause).map_err(AllocError::from)?;
         }
         for (kind, group) in found.groups.iter().skip(blocks.kinds) {

@@ -54,6 +54,23 @@ pub enum Advice {
     Own,
 }
 
+impl Advice {
+    /// Whether it says how to do this.
+    pub fn offers(self, deed: Deed) -> bool {
+        let (shifts, reduces) = match self {
+            Advice::End | Advice::Inner | Advice::General => (false, false),
+            Advice::Both { reduces, shifts } => (shifts, reduces),
+            Advice::Token(words) => (words.shifts.any(), words.reduces.any()),
+            Advice::Lines { words, .. } => (words.shifts.any(), words.reduces.any()),
+            Advice::Rule(_) | Advice::Own => (true, true),
+        };
+        match deed {
+            Deed::Shift => shifts,
+            Deed::Reduce => reduces,
+        }
+    }
+}
+
 /// What a hint is for.
 #[derive(Clone, Copy, Drop, PartialEq, Eq)]
 pub enum Deed {
@@ -166,7 +183,7 @@ impl Rivals<'_> {
             },
             None if is_inner(self.asked.grammar(), rule) => Some(Advice::Inner),
             None => {
-                let chooses = self.chooses_by(rule, Associativity::Nonassoc);
+                let chooses = self.chooses_by(rule, Associativity::Right);
                 chooses.then_some(Advice::Own)
             }
         }

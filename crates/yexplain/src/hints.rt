@@ -25,13 +25,24 @@ fn fresh_name(grammar: &Grammar) -> &'static str {
 }
 
 impl Rivals<'_> {
-    /// Writes how the cell can be settled otherwise.
+    /// Writes how the cell can be settled otherwise, and whether a conflict stays in it then.
     pub fn put_hint<W: Write>(&self, out: &mut W, hint: Hint) -> io::Result<()> {
+        self.put_how(out, hint)?;
+        match self.left_by(hint) {
+            (false, false) => Ok(()),
+            (true, true) => writeln!(out, "  Either way a conflict with another rule stays."),
+            (true, false) => writeln!(out, "  The shift leaves a conflict with another rule."),
+            (false, true) => writeln!(out, "  The reduction leaves a conflict with another rule."),
+        }
+    }
+
+    /// Writes how the cell can be settled otherwise.
+    fn put_how<W: Write>(&self, out: &mut W, hint: Hint) -> io::Result<()> {
         match hint {
             Hint::First => writeln!(
                 out,
-                "  To choose, put the rule that you want first, or change the grammar so that one \
-                 alone fits here."
+                "  To choose, change the grammar so that one alone fits here: another order of the \
+                 rules takes another of them, and what only the one taken now accepts is lost."
             ),
             Hint::Settle(rule, advice) => self.put_advice(out, rule, advice),
             Hint::General => self.put_general(out),
@@ -60,7 +71,7 @@ impl Rivals<'_> {
         }
         write!(out, "  To choose, ")?;
         if level_of(self.asked.grammar(), self.asked.token).is_none() {
-            write!(out, "name {name} on a line of %nonassoc, and ")?;
+            write!(out, "name {name} on a line of %right, and ")?;
         }
         writeln!(
             out,
@@ -123,8 +134,8 @@ impl Rivals<'_> {
                 let (name, giver) = (self.asked.name(), Name(self.asked.grammar(), giver));
                 writeln!(
                     out,
-                    "  To choose, name {giver} on a line of %left, %right or %nonassoc: earlier \
-                     than {name} shifts {name}, later reduces by rule {rule}."
+                    "  To choose, name {giver} on a line of %left or %right: earlier than {name} \
+                     shifts {name}, later reduces by rule {rule}."
                 )
             }
             Advice::Lines { words, own } => self.put_lines(out, rule, (words, own)),
@@ -177,12 +188,12 @@ impl Rivals<'_> {
         let name = self.asked.name();
         let line = match level_of(self.asked.grammar(), self.asked.token) {
             Some(_) => "the line of",
-            None => "%nonassoc",
+            None => "%right",
         };
         let low = fresh_name(self.asked.grammar());
         writeln!(
             out,
-            "  To choose, write %nonassoc {low} above {line} {name}, and %prec {low} at the end of \
+            "  To choose, write %right {low} above {line} {name}, and %prec {low} at the end of \
              rule {rule}: that shifts, and the other order of the lines reduces."
         )
     }
@@ -203,15 +214,11 @@ impl Rivals<'_> {
                 "  To choose, name {name} and {token} on two lines of {both}: {name} on the later \
                  one shifts, {token} on it reduces."
             )?;
-            if own {
-                let low = fresh_name(self.asked.grammar());
-                writeln!(
-                    out,
-                    "  Or give rule {rule} a precedence of its own: %prec {low} at its end, and {low} \
-                     in place of {token}."
-                )?;
-            }
-            return Ok(());
+            return if own {
+                self.put_own_too(out, rule, words.giver)
+            } else {
+                Ok(())
+            };
         }
         if shifts.any() {
             writeln!(
@@ -228,5 +235,16 @@ impl Rivals<'_> {
             )?;
         }
         Ok(())
+    }
+
+    /// Writes that a name of its own for a rule does as well as the line of a token.
+    fn put_own_too<W: Write>(&self, out: &mut W, rule: usize, giver: Sym) -> io::Result<()> {
+        let grammar = self.asked.grammar();
+        let (low, giver) = (fresh_name(grammar), Name(grammar, giver));
+        writeln!(
+            out,
+            "  Or give rule {rule} a precedence of its own: %prec {low} at its end, and {low} in \
+             place of {giver}."
+        )
     }
 }

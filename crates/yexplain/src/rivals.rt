@@ -44,18 +44,24 @@ impl Kinds {
     pub fn any(self) -> bool {
         self.left || self.right || self.nonassoc
     }
+
+    /// Those that are offered: `%nonassoc`, which refuses sentences, only where no other word does.
+    pub fn offered(self) -> Kinds {
+        Kinds {
+            left: self.left,
+            right: self.right,
+            nonassoc: self.nonassoc && !self.left && !self.right,
+        }
+    }
 }
 
 impl fmt::Display for Kinds {
     fn fmt<W: fmt::Write>(&self, f: &mut fmt::Formatter<W>) -> fmt::Result {
-        f.write_str(match (self.left, self.right, self.nonassoc) {
-            (true, true, true) => "%left, %right or %nonassoc",
-            (true, true, false) => "%left or %right",
-            (true, false, true) => "%left or %nonassoc",
-            (false, true, true) => "%right or %nonassoc",
-            (true, false, false) => "%left",
-            (false, true, false) => "%right",
-            (false, false, _) => "%nonassoc",
+        f.write_str(match (self.left, self.right) {
+            (true, true) => "%left or %right",
+            (true, false) => "%left",
+            (false, true) => "%right",
+            (false, false) => "%nonassoc",
         })
     }
 }
@@ -217,7 +223,7 @@ impl<'a> Rivals<'a> {
     pub fn with_own(&self, rule: usize, place: usize, token: Precedence) -> Supposed<'a> {
         Supposed {
             token: Some((self.asked.token, token)),
-            rule: Some((rule, line(place, Associativity::Nonassoc))),
+            rule: Some((rule, line(place, Associativity::Right))),
             ..self.supposed()
         }
     }

@@ -29,6 +29,10 @@ pub struct Settled {
     standings: [Option<Standing>; MOST_SHOWN],
     /// How to choose otherwise.
     pub hint: Option<Hint>,
+    /// Whether a conflict stays in the cell where the hint is followed to shift.
+    left_by_shift: bool,
+    /// Whether one does where it is followed to reduce.
+    left_by_rule: bool,
 }
 
 /// Writes what a cell says: `state 33 on ELSE: shift, to state 35`.
@@ -49,7 +53,18 @@ pub fn put_cell<W: Write>(out: &mut W, asked: Question<'_>) -> io::Result<()> {
 pub fn explain<W: Write>(out: &mut W, asked: Question<'_>) -> io::Result<()> {
     put_cell(out, asked)?;
     asked.put_reason(out)?;
-    asked.put_hint(out)
+    asked.put_choice(out)
+}
+
+impl Question<'_> {
+    /// Writes how to choose otherwise, where precedences have settled the cell; of a conflict, what
+    /// tries that, since a choice may lose sentences.
+    pub fn put_choice<W: Write>(self, out: &mut W) -> io::Result<()> {
+        match conflict_of(self.tables, self.state, self.token) {
+            Some(_) => writeln!(out, "  ydebug conflicts tries how to choose otherwise."),
+            None => self.put_hint(out),
+        }
+    }
 }
 
 impl<'a> Question<'a> {
@@ -111,6 +126,11 @@ impl<'a> Question<'a> {
             }
         }
         let action = action_of(self.tables, self.state, self.token);
+        let hint = hint_on(self);
+        let (left_by_shift, left_by_rule) = match hint {
+            Some(hint) => Rivals::new(self).left_by(hint),
+            None => (false, false),
+        };
         Settled {
             reduced: match action {
                 Action::Reduce(rule) => Some(rule),
@@ -120,7 +140,9 @@ impl<'a> Question<'a> {
             is_conflict: conflict_of(self.tables, self.state, self.token).is_some(),
             is_end: shifts && self.token == END,
             standings,
-            hint: hint_on(self),
+            hint,
+            left_by_shift,
+            left_by_rule,
         }
     }
 

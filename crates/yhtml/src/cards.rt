@@ -1,6 +1,6 @@
 //! The conflicts of a grammar as the page shows them, each with its lists of tokens.
 
-use crate::cells::{text_of, why_of};
+use crate::cells::text_of;
 use serde::Serialize;
 use std::alloc::{AllocError, Global};
 use std::io;
@@ -8,6 +8,8 @@ use yexplain::lines::Lines;
 use yfaults::opening::Opened;
 use ylists::list_text::{ListText, put_unfound};
 use yparse::Session;
+use yreports::blocks::{Block, blocks_of};
+use yreports::brief::put_why;
 use ysearch::finding::{Finding, Seeker};
 use ysearch::groups::{Conflicts, Group, Kind};
 use ysearch::trial::empty_session;
@@ -18,7 +20,7 @@ use yview::page::Page;
 /// The most conflicts that a page shows.
 const MOST_CARDS: usize = 200;
 
-/// A conflict.
+/// The conflicts of one state between the same rivals, by the first of them.
 #[derive(Serialize)]
 pub struct Card {
     /// The first state that has it.
@@ -48,9 +50,9 @@ impl Drop for Card {
 /// The conflicts of a grammar.
 #[derive(Drop, Serialize)]
 pub struct Cards {
-    /// The kinds of conflicts, 200 at most.
+    /// The groups of conflicts, 200 at most.
     pub kinds: Vec<Card>,
-    /// How many kinds there are more.
+    /// How many there are more.
     more: usize,
 }
 
@@ -90,13 +92,16 @@ impl Maker<'_> {
         Ok(ways)
     }
 
-    fn card(self, finding: &Finding) -> io::Result<Card> {
+    /// The card of a block.
+    fn card(self, block: &Block, finding: &Finding) -> io::Result<Card> {
         let rules = Vec::from_slice(self.alloc, self.kind.rules())?;
         let taken = usize::from(!self.kind.shift);
         let all = self.kind.rivals.saturating_add(taken);
         let cell = self.kind.cell(self.group, self.tables, self.lines);
         let mut page = Page::new(Vec::new(self.alloc), false);
         put_unfound(&mut page, finding);
+        let mut why = Page::new(Vec::new(self.alloc), false);
+        put_why(&mut why, self.tables, self.lines, block);
         Ok(Card {
             state: cell.state,
             token: cell.token,
@@ -104,7 +109,7 @@ impl Maker<'_> {
             shift: self.kind.shift,
             more: all.saturating_sub(rules.len()),
             rules,
-            why: why_of(self.alloc, cell)?,
+            why: written(self.alloc, why)?,
             ways: self.ways(finding)?,
             missing: written(self.alloc, page)?,
         })
@@ -118,21 +123,23 @@ fn cards_of(
     lines: &Lines,
     found: &Conflicts,
 ) -> io::Result<Cards> {
+    let blocks = blocks_of(alloc, session.tables(), lines, found)?;
     let mut seeker = Seeker::new(alloc, session)?;
     let mut cards = Cards {
         kinds: Vec::new(alloc),
-        more: found.groups.len().saturating_sub(MOST_CARDS),
+        more: blocks.groups(found).saturating_sub(MOST_CARDS),
     };
-    for (kind, group) in found.groups.iter().take(MOST_CARDS) {
-        let finding = seeker.find(kind, *group)?;
+    for block in blocks.list.iter().take(MOST_CARDS) {
+        let (kind, group) = (&block.first.kind, block.first.group);
+        let finding = seeker.find(kind, group)?;
         let maker = Maker {
             alloc,
             tables: seeker.session.tables(),
             lines,
             kind,
-            group: *group,
+            group,
         };
-        let card = maker.card(&finding)?;
+        let card = maker.card(block, &finding)?;
         cards.kinds.push(card).map_err(AllocError::from)?;
     }
     Ok(cards)

@@ -27,7 +27,7 @@ pub fn text_of(alloc: Global, bytes: &[u8]) -> Made<String> {
 pub fn why_of(alloc: Global, asked: Question<'_>) -> io::Result<String> {
     let mut why = Vec::new(alloc);
     asked.put_reason(&mut why)?;
-    asked.put_hint(&mut why)?;
+    asked.put_choice(&mut why)?;
     Ok(text_of(alloc, &why)?)
 }
 

@@ -9,13 +9,14 @@ use yambiguity::answer::{Ambiguities, Answer, Rivals};
 use yambiguity::choice::{Cell, Choice};
 use yexplain::reads::Made;
 use ysearch::finding::{Allows, Finding, Seeker};
+use ysymbols::Sym;
 use yview::page::Page;
 
 /// The most rules of a block that are set against what is taken.
 const MOST_RULES: usize = 3;
 
 /// The most conflicts of a block for which a sentence with two trees is sought.
-const MOST_SOUGHT: usize = 8;
+const MOST_SOUGHT: usize = 40;
 
 /// Which rivals a list allows that was found for a rule.
 fn allows_of(finding: &Finding, rule: usize) -> Option<Allows> {
@@ -50,12 +51,13 @@ pub fn rivals_of(entry: &Entry, rule: usize) -> Rivals {
 
 /// What can be found for a conflict: for what is taken and each of the first rules beside it, up to
 /// one with which there is a sentence with two trees; a sentence for each where these are wanted.
+/// Some sentences are given, among which ones with two trees are sought too.
 pub fn answers_of(
     alloc: Global,
     seeker: &mut Seeker<'_>,
     found: &mut Ambiguities,
     (entry, finding): (&Entry, &Finding),
-    wants_each: bool,
+    wanted: (bool, &[Vec<Sym>]),
 ) -> Made<Vec<Answer>> {
     let mut answers = Vec::new(alloc);
     for rule in entry.kind.others().iter().take(MOST_RULES) {
@@ -65,7 +67,7 @@ pub fn answers_of(
         };
         let tables = seeker.session.tables();
         let asked = (rivals, are_both);
-        let answer = found.seek(tables, &mut seeker.finder, asked, wants_each)?;
+        let answer = found.seek(tables, &mut seeker.finder, asked, wanted)?;
         let is_last = answer.twins.is_some();
         answers.push(answer)?;
         if is_last {
@@ -86,10 +88,11 @@ pub fn block_answers(
     alloc: Global,
     seeker: &mut Seeker<'_>,
     found: &mut Ambiguities,
-    block: &Block,
-    finding: &Finding,
+    (block, finding): (&Block, &Finding),
+    given: &[Vec<Sym>],
 ) -> io::Result<Vec<Answer>> {
-    let answers = answers_of(alloc, seeker, found, (&block.first, finding), true)?;
+    let asked = (&block.first, finding);
+    let answers = answers_of(alloc, seeker, found, asked, (true, given))?;
     let mut left = if answers.is_empty() || are_twins(&answers) {
         0
     } else {
@@ -97,12 +100,13 @@ pub fn block_answers(
     };
     for class in &block.classes {
         for entry in &class.entries {
-            if left == 0 || entry.number == block.first.number {
+            let is_done = entry.number == block.first.number || !seeker.finder.has_steps();
+            if left == 0 || is_done {
                 continue;
             }
             left = left.saturating_sub(1);
             let other = seeker.find(&entry.kind, entry.group)?;
-            let others = answers_of(alloc, seeker, found, (entry, &other), false)?;
+            let others = answers_of(alloc, seeker, found, (entry, &other), (false, given))?;
             if are_twins(&others) {
                 return Ok(others);
             }
@@ -111,23 +115,28 @@ pub fn block_answers(
     Ok(answers)
 }
 
-/// Writes what was found for a conflict of a block.
+/// Writes what was found for a conflict of a block; the given sentences were so many, of up to so
+/// many tokens.
 pub fn put_answers<W: Write>(
     alloc: Global,
     page: &mut Page<W>,
     text: AmbiguityText<'_>,
     answers: &[Answer],
+    (most, count): (usize, usize),
 ) -> Made<()> {
     for answer in answers {
         if let Some(twins) = &answer.twins {
             return text.put_twins(alloc, page, twins);
         }
     }
-    if let Some(steps) = answers.iter().filter_map(|answer| answer.steps).max() {
+    let is_sought = answers.iter().any(|answer| answer.is_sought);
+    if is_sought && count > 0 && answers.iter().all(|answer| answer.is_whole) {
         let _ = writeln!(
             page,
-            "  No sentence with two trees was found within {steps} steps."
+            "  None of the sentences of up to {most} tokens ({count}) has two trees here."
         );
+    } else if is_sought {
+        page.line("  No sentence with two trees was found.");
     }
     let mut written = Vec::new(alloc);
     for answer in answers {

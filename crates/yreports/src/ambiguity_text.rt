@@ -16,6 +16,9 @@ const INDENT: usize = 4;
 
 const STEP: usize = 2;
 
+/// What stands where the conflict is.
+const DOT: &str = ".";
+
 /// The most nodes of a tree that are drawn.
 const MOST_NODES: usize = 100;
 
@@ -28,8 +31,6 @@ pub struct AmbiguityText<'a> {
     pub lines: &'a Lines,
     /// The trees.
     pub trees: &'a Trees,
-    /// What stands where the conflict is.
-    pub dot: &'static str,
 }
 
 /// A tree that is being drawn.
@@ -76,7 +77,7 @@ impl AmbiguityText<'_> {
         let (tokens, dot) = (sentence.tokens.as_slice(), sentence.dot);
         let before = Names(self.grammar, tokens.get(..dot).unwrap_or(tokens));
         let after = Names(self.grammar, tokens.get(dot..).unwrap_or(&[]));
-        let dot = self.dot;
+        let dot = DOT;
         let _ = writeln!(page, "{before} {dot}{after}");
     }
 
@@ -102,7 +103,7 @@ impl AmbiguityText<'_> {
             begin(page, level);
         }
         if drawn.leaves == 0 && drawn.dot == 0 {
-            page.put(self.dot);
+            page.put(DOT);
             page.put(" ");
         }
         let _ = write!(page, "{}", Name(self.grammar, symbol));
@@ -110,7 +111,7 @@ impl AmbiguityText<'_> {
         drawn.line = Some(level);
         if drawn.leaves == drawn.dot {
             page.put(" ");
-            page.put(self.dot);
+            page.put(DOT);
         }
     }
 
@@ -179,31 +180,6 @@ impl AmbiguityText<'_> {
         self.put_tree(alloc, page, twins.trees.0, twins.dot)?;
         self.put_choice(page, twins.second, &twins.sentence);
         page.end();
-        self.put_tree(alloc, page, twins.trees.1, twins.dot)
-    }
-
-    /// Writes a sentence with two trees as bison does.
-    pub fn put_derivations<W: Write>(
-        self,
-        alloc: Global,
-        page: &mut Page<W>,
-        twins: &Twins,
-    ) -> Made<()> {
-        let first = twins.sentence.choice;
-        let is_shift = matches!(first, Choice::Shift);
-        page.put("  Example:");
-        self.put_tokens(page, &twins.sentence);
-        page.line(if is_shift {
-            "  Shift derivation"
-        } else {
-            "  First reduce derivation"
-        });
-        self.put_tree(alloc, page, twins.trees.0, twins.dot)?;
-        page.line(if is_shift {
-            "  Reduce derivation"
-        } else {
-            "  Second reduce derivation"
-        });
         self.put_tree(alloc, page, twins.trees.1, twins.dot)
     }
 

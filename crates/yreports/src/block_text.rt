@@ -18,6 +18,9 @@ const INDENT: usize = 4;
 
 const WIDTH: usize = 78;
 
+/// The most tokens of a block that is told on one line.
+const MOST_NAMED: usize = 8;
+
 /// What blocks are written with.
 #[derive(Clone, Copy)]
 pub struct BlockText<'a> {
@@ -31,12 +34,26 @@ pub struct BlockText<'a> {
     pub lines: &'a Lines,
 }
 
+/// The least number of a block's conflicts that is greater than this one.
+fn number_after(block: &Block, last: Option<usize>) -> Option<usize> {
+    let mut next: Option<usize> = None;
+    for class in &block.classes {
+        for entry in &class.entries {
+            let number = entry.number;
+            if last.is_none_or(|it| number > it) && next.is_none_or(|it| number < it) {
+                next = Some(number);
+            }
+        }
+    }
+    next
+}
+
 /// Writes which other conflicts a hint settles.
 fn put_also<W: Write>(page: &mut Page<W>, class: &Class) {
     if class.also.is_empty() {
         return;
     }
-    page.put("  In a line of %left after all others, that also settles ");
+    page.put("  In a line of %left after all others, what the first hint names also settles ");
     let mut ranges = Ranges::begin(page, class.also.len());
     for number in &class.also {
         ranges.add(page, *number);
@@ -103,9 +120,14 @@ impl BlockText<'_> {
         page.end();
         put_front(page, self.path, entry.kind.spot(self.lines));
         let _ = write!(page, "conflict {}: ", entry.number.saturating_add(1));
-        let asked = entry.cell(self.tables, self.lines);
-        let _ = put_cell(page, asked);
-        let _ = asked.put_reason(page);
+        let _ = put_cell(page, entry.cell(self.tables, self.lines));
+        self.put_reasons(page, block);
+    }
+
+    /// Writes why the first conflict of a block is settled so, and on which tokens it is the same.
+    pub fn put_reasons<W: Write>(self, page: &mut Page<W>, block: &Block) {
+        let entry = block.first;
+        let _ = entry.cell(self.tables, self.lines).put_reason(page);
         if let Some(class) = block.classes.first() {
             self.put_choice(page, class);
             let rest = class.entries.get(1..).unwrap_or(&[]);
@@ -114,6 +136,31 @@ impl BlockText<'_> {
             }
         }
         put_states(page, entry.group);
+    }
+
+    /// Writes on one line that the conflicts of a block come of the same cause as one before.
+    pub fn put_as<W: Write>(self, page: &mut Page<W>, block: &Block, number: usize) {
+        let grammar = grammar_of(self.tables);
+        put_front(page, self.path, block.first.kind.spot(self.lines));
+        let count = block.classes.iter().fold(0usize, |sum, class| {
+            sum.saturating_add(class.entries.len())
+        });
+        let (mut ranges, mut last) = (Ranges::begin(page, count), None);
+        for _ in 0..count {
+            last = number_after(block, last);
+            ranges.add(page, last.unwrap_or(0));
+        }
+        ranges.end(page);
+        let (state, number) = (block.first.group.state, number.saturating_add(1));
+        let _ = write!(page, " as conflict {number}: state {state} on");
+        let mut left = MOST_NAMED;
+        for class in &block.classes {
+            for entry in class.entries.iter().take(left) {
+                let _ = write!(page, " {}", Name(grammar, entry.kind.token));
+            }
+            left = left.saturating_sub(class.entries.len());
+        }
+        page.line(if count > MOST_NAMED { " .." } else { "" });
     }
 
     /// Writes what is said on the tokens of a block on which it is otherwise than on the first one.

@@ -32,8 +32,9 @@ pub struct Entry {
 pub struct Loss {
     /// The choice.
     pub deed: Deed,
-    /// The word of the lines of precedence that make it.
+    /// What makes it: the word of lines of precedence, or this rule in front.
     pub word: &'static str,
+    pub rule: Option<usize>,
     /// On how many sentences it was tried, which are all of up to so many tokens.
     pub short: usize,
     pub most: usize,
@@ -118,6 +119,15 @@ impl Block {
 }
 
 impl Blocks {
+    /// How many groups conflicts are shown in: the blocks, or the kinds where these are too many.
+    pub fn groups(&self, found: &Conflicts) -> usize {
+        if self.kinds < found.groups.len() {
+            found.groups.len()
+        } else {
+            self.list.len()
+        }
+    }
+
     /// The place of the block of a conflict, which is begun where there is none.
     fn place(&mut self, alloc: Global, entry: Entry) -> Made<usize> {
         let mut blocks = self.list.iter();

@@ -8,7 +8,10 @@ use std::alloc::Global;
 use yexplain::lines::{Lines, is_inner};
 use yexplain::reads::{Made, grammar_of, level_of, set};
 use ylalr::END;
-use ysearch::groups::Conflicts;
+use ymends::idioms::idioms_of;
+use ymends::mending::MOST_STATES;
+use ysearch::groups::{Conflicts, Kind};
+use ysearch::shortest::Shortest;
 use ysymbols::{Grammar, Sym};
 use ytables::Tables;
 
@@ -33,6 +36,8 @@ pub struct Change {
     pub rule: Option<usize>,
     /// How many conflicts it settles beside those that changes before it do.
     pub settles: usize,
+    /// The kinds that it settles, by their numbers, from 0 on, where changes before it don't.
+    pub kinds: Vec<usize>,
 }
 
 /// What the conflicts come from.
@@ -46,6 +51,22 @@ pub struct Causes {
     pub pairs: IndexMap<(usize, usize), usize>,
     /// Rules of these pairs that others cover.
     pub covered: Vec<Covered>,
+}
+
+impl Causes {
+    /// The cause of a kind of conflict by its number, from 0 on: a change that settles it, or the two
+    /// rules between which it is.
+    pub fn of(&self, number: usize, kind: &Kind) -> Option<usize> {
+        for (place, change) in self.changes.iter().enumerate() {
+            if change.kinds.contains(&number) {
+                return Some(place);
+            }
+        }
+        let both = (kind.taken()?, *kind.others().first()?);
+        let mut pairs = self.pairs.iter();
+        let place = pairs.position(|(pair, _)| *pair == both)?;
+        Some(self.changes.len().saturating_add(place))
+    }
 }
 
 /// Tokens in classes: those that a conflict needs to have precedences are in one.
@@ -127,7 +148,7 @@ fn changes_of(
     alloc: Global,
     grammar: &Grammar,
     lines: &Lines,
-    cells: &[Tried],
+    (cells, barred): (&[Tried], &[bool]),
 ) -> Made<Vec<Change>> {
     let mut classes = Classes::new(alloc, grammar.symbols())?;
     let mut changes = Vec::new(alloc);
@@ -136,6 +157,7 @@ fn changes_of(
         for rule in contest.rules().unwrap_or(&[]) {
             match lines.giver(grammar, *rule) {
                 Some(giver) => classes.note(grammar, contest.token, giver),
+                None if barred.get(*rule) == Some(&true) => {}
                 None => push_own(alloc, grammar, &mut changes, *rule, contest.token)?,
             }
         }
@@ -147,6 +169,7 @@ fn changes_of(
                 tokens,
                 rule: None,
                 settles: 0,
+                kinds: Vec::new(alloc),
             })?;
         }
     }
@@ -173,33 +196,38 @@ fn push_own(
         tokens,
         rule: Some(rule),
         settles: 0,
+        kinds: Vec::new(alloc),
     })?;
     Ok(())
 }
 
 impl Seeker<'_> {
-    /// Marks what a change gives precedences to, or takes these marks back.
-    fn mark(&mut self, change: &Change, is_set: bool) {
-        for token in &change.tokens {
-            set(&mut self.marks.tokens, *token, is_set);
-        }
-        if let Some(rule) = change.rule {
-            set(&mut self.marks.rules, rule, is_set);
-        }
+    /// What is marked with what a change gives precedences to.
+    fn with(&self, change: &Change) -> Made<Marks> {
+        self.marks.with(self.alloc, &change.tokens, change.rule)
     }
 
     /// The change that leaves the fewest conflicts, and how many; the first of several.
-    fn best(&mut self, changes: &[Change]) -> Option<(usize, usize)> {
+    fn best(&self, changes: &[Change]) -> Made<Option<(usize, usize)>> {
         let mut best: Option<(usize, usize)> = None;
         for (place, change) in changes.iter().enumerate() {
-            self.mark(change, true);
-            let left = counted(self.grammar, self.lines, &self.marks, self.cells);
-            self.mark(change, false);
+            let marks = self.with(change)?;
+            let left = counted(self.grammar, self.lines, &marks, self.cells);
             if best.is_none_or(|(_, least)| left < least) {
                 best = Some((place, left));
             }
         }
-        best
+        Ok(best)
+    }
+
+    /// Whether each kind counts no conflict with what is marked.
+    fn settled(&self) -> Made<Vec<bool>> {
+        let mut settled = Vec::new(self.alloc);
+        for cell in self.cells {
+            let cells = Vec::from_slice(self.alloc, &[*cell])?;
+            settled.push(counted(self.grammar, self.lines, &self.marks, &cells) == 0)?;
+        }
+        Ok(settled)
     }
 
     /// The changes that settle the most, one after another.
@@ -208,7 +236,7 @@ impl Seeker<'_> {
         let mut chosen = Vec::new(self.alloc);
         let mut left = all;
         for _ in 0..MOST_CAUSES {
-            let Some((place, less)) = self.best(&changes) else {
+            let Some((place, less)) = self.best(&changes)? else {
                 break;
             };
             if less >= left || place >= changes.len() {
@@ -216,7 +244,13 @@ impl Seeker<'_> {
             }
             let mut change = changes.remove(place);
             change.settles = left.saturating_sub(less);
-            self.mark(&change, true);
+            let before = self.settled()?;
+            self.marks = self.with(&change)?;
+            for (number, is_settled) in self.settled()?.iter().enumerate() {
+                if *is_settled && before.get(number) == Some(&false) {
+                    change.kinds.push(number)?;
+                }
+            }
             left = less;
             chosen.push(change)?;
         }
@@ -256,6 +290,24 @@ fn all_covered(
     Ok(found)
 }
 
+/// Marks of the rules whose conflicts come of an idiom, which precedences don't mend.
+fn barred_of(alloc: Global, tables: &Tables) -> Made<Vec<bool>> {
+    let automaton = tables.automaton();
+    let grammar = automaton.grammar();
+    let mut barred = vec![in alloc; false; grammar.rules()]?;
+    if automaton.states() <= MOST_STATES {
+        let shortest = Shortest::new(alloc, grammar)?;
+        for idiom in &idioms_of(alloc, automaton, &shortest)? {
+            for rule in 1..grammar.rules() {
+                if idiom.concerns(automaton, &[rule]) {
+                    set(&mut barred, rule, true);
+                }
+            }
+        }
+    }
+    Ok(barred)
+}
+
 /// What these conflicts come from; `None` where they are of one kind, or of too many.
 pub fn causes_of(
     alloc: Global,
@@ -272,7 +324,8 @@ pub fn causes_of(
     let all = cells
         .iter()
         .fold(0usize, |sum, cell| sum.saturating_add(cell.weight()));
-    let changes = changes_of(alloc, grammar, lines, &cells)?;
+    let barred = barred_of(alloc, tables)?;
+    let changes = changes_of(alloc, grammar, lines, (&cells, &barred))?;
     let marks = Marks::new(alloc, grammar)?;
     let mut seeker = Seeker {
         alloc,

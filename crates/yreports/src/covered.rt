@@ -1,11 +1,11 @@
 //! Rules that others cover: what they derive comes of those too, so the language stays the same
 //! without them.
 
-use crate::changed::conflicts_after;
-use crate::changed_text::Change;
 use std::alloc::Global;
 use yexplain::lines::Lines;
 use yexplain::reads::{Made, body_of, grammar_of, left_of, set};
+use ymends::changed::conflicts_after;
+use ymends::changed_text::Change;
 use ysymbols::{Grammar, Sym};
 use ytables::Tables;
 

@@ -6,9 +6,9 @@
 //! choice loses (of few tokens: `short`), `leading` the items of a
 //! state that lead to a shift, `numbers` the numbers of conflicts, `causes` what many have in
 //! common, found by changes that are tried on all cells (`tried`) and by tables without a rule that
-//! others cover (`covered`), and `splitting` what mends a conflict of merged states. Both ask
-//! `changed` for the tables of a changed grammar, whose text `changed_text` writes. Lists of tokens
-//! are written and kept by `ylists`. `examples` are the counterexamples as `ycc` tells them.
+//! others cover (`covered`), and `splitting` what mends a conflict of merged states. Changed grammars
+//! are those of `ymends`, as are idioms. Lists of tokens are written and kept by `ylists`. `brief`
+//! has the blocks in short.
 #![tactic(auto)]
 
 pub mod also;
@@ -16,12 +16,10 @@ pub mod ambiguity;
 mod ambiguity_text;
 mod block_text;
 pub mod blocks;
+pub mod brief;
 mod cause_text;
 pub mod causes;
-mod changed;
-mod changed_text;
 pub mod covered;
-pub mod examples;
 mod leading;
 pub mod lost;
 mod numbers;

@@ -3,21 +3,22 @@
 
 use crate::ambiguity::rivals_of;
 use crate::blocks::{Block, Blocks, Loss};
-use crate::changed::tables_after;
-use crate::changed_text::{Change, directive_of};
 use crate::short::short_sentences;
-use std::alloc::{AllocError, Global};
+use std::alloc::Global;
 use std::io::{self, Write};
 use yambiguity::answer::Ambiguities;
 use yexplain::advice::{Advice, Deed, Hint};
 use yexplain::lines::Lines;
 use yexplain::mends::{Mend, mend_of};
-use yexplain::reads::{Made, grammar_of, name_of};
+use yexplain::reads::{Made, grammar_of};
 use yexplain::text::Names;
 use yexplain::why::Question;
-use yparse::{Tokens, Verdict, judge};
+use ymends::changed::tables_after;
+use ymends::changed_text::{Change, directive_of};
+use ymends::language::{accepts, renamed};
+use ymends::rewriting::Rewriting;
 use ysearch::search::Finder;
-use ysymbols::{Associativity, Grammar, Sym};
+use ysymbols::{Grammar, Sym};
 use ytables::Tables;
 
 /// The most blocks of conflicts to which longer sentences come, and how many of their conflicts'
@@ -32,6 +33,11 @@ const MOST_CLASSES: usize = 40;
 /// The most states of tables that are made anew.
 const MOST_STATES: usize = 800;
 
+/// How many steps the search for longer sentences may take, and all parses over sentences.
+const ALL_STEPS: usize = 4_000_000;
+
+const ALL_PARSES: usize = 3_000_000;
+
 /// Sentences that tables accept.
 #[derive(Drop)]
 struct Pool {
@@ -39,32 +45,8 @@ struct Pool {
     /// How many of them, the first ones, are all that have up to so many tokens.
     short: usize,
     most: usize,
-}
-
-/// Whether tables accept a sentence.
-fn accepts(alloc: Global, tables: &Tables, tokens: &[Sym]) -> Made<bool> {
-    let tokens = Tokens {
-        symbols: Vec::from_slice(alloc, tokens)?,
-    };
-    if !tokens.fits(tables) {
-        return Ok(false);
-    }
-    match judge(alloc, tables, &tokens) {
-        Ok(verdict) => Ok(matches!(verdict, Verdict::Accepted(_))),
-        Err(_) => Err(AllocError),
-    }
-}
-
-/// Tokens of a grammar as another one has them, by their names; `None` where it lacks one.
-fn renamed(alloc: Global, from: &Grammar, to: &Grammar, tokens: &[Sym]) -> Made<Option<Vec<Sym>>> {
-    let mut others = Vec::new(alloc);
-    for token in tokens {
-        match to.find(name_of(from, *token)) {
-            Some(other) => others.push(other)?,
-            None => return Ok(None),
-        }
-    }
-    Ok(Some(others))
+    /// How many steps parses over them may still take.
+    left: usize,
 }
 
 impl Pool {
@@ -75,8 +57,10 @@ impl Pool {
             short: short.sentences.len(),
             most: short.most,
             sentences: short.sentences,
+            left: ALL_PARSES,
         };
         let mut finder = Finder::new(alloc, tables.automaton())?;
+        finder.steps.left = ALL_STEPS;
         let mut found = Ambiguities::new(alloc);
         for block in blocks.list.iter().take(MOST_BLOCKS) {
             pool.add_longer(alloc, tables, (&mut finder, &mut found), block)?;
@@ -98,9 +82,13 @@ impl Pool {
                 continue;
             };
             for rule in entry.kind.others().iter().take(MOST_RULES) {
+                if !finder.has_steps() {
+                    return Ok(());
+                }
                 for sentence in &found.each(tables, finder, rivals_of(entry, *rule))? {
                     let tokens = sentence.tokens.as_slice();
-                    if tokens.len() > self.most && accepts(alloc, tables, tokens)? {
+                    let is_longer = tokens.len() > self.most;
+                    if is_longer && accepts(alloc, tables, tokens, &mut self.left)? == Some(true) {
                         self.sentences.push(Vec::from_slice(alloc, tokens)?)?;
                     }
                 }
@@ -109,43 +97,68 @@ impl Pool {
         Ok(())
     }
 
-    /// What comes of a choice, by tables with it.
+    /// What comes of a choice, by tables with it; `None` where that takes too many steps.
     fn loss(
-        &self,
+        &mut self,
         alloc: Global,
         grammar: &Grammar,
         tables: &Tables,
-        (deed, word): (Deed, &'static str),
-    ) -> Made<Loss> {
+        (deed, by): (Deed, By),
+    ) -> Made<Option<Loss>> {
         let (mut lost, mut first) = (0usize, Vec::new(alloc));
-        let chosen = grammar_of(tables);
+        let (chosen, mut left, mut is_whole) = (grammar_of(tables), self.left, true);
         for sentence in &self.sentences {
             let is_kept = match renamed(alloc, grammar, chosen, sentence)? {
-                Some(tokens) => accepts(alloc, tables, &tokens)?,
-                None => false,
+                Some(tokens) => accepts(alloc, tables, &tokens, &mut left)?,
+                None => Some(false),
             };
-            if !is_kept {
+            is_whole = is_whole && is_kept.is_some();
+            if is_kept == Some(false) {
                 if lost == 0 {
                     first.extend_from_slice(sentence)?;
                 }
                 lost = lost.saturating_add(1);
             }
         }
-        Ok(Loss {
+        self.left = left;
+        Ok(is_whole.then_some(Loss {
             deed,
-            word,
+            word: by.word,
+            rule: by.rule,
             short: self.short,
             most: self.most,
             longer: self.sentences.len().saturating_sub(self.short),
             lost,
             first,
-        })
+        }))
     }
 }
 
-/// The change that makes a choice that a hint on a cell offers, and the word of its lines, where it
-/// is one or two lines after all others or a precedence of the rule's own.
-fn change_of(asked: Question<'_>, hint: Hint, deed: Deed) -> Option<(Change, &'static str)> {
+/// What makes a choice: lines of this word, or a rule in front.
+#[derive(Clone, Copy, Drop)]
+struct By {
+    word: &'static str,
+    rule: Option<usize>,
+}
+
+/// The change by which the next rule of a cell without a shift is taken: it is put in front.
+fn order_of(asked: Question<'_>) -> Option<(Change, By)> {
+    let before = asked.candidates().next()?.rule;
+    let rule = asked.candidates().skip(1).next()?.rule;
+    let by = By {
+        word: "",
+        rule: Some(rule),
+    };
+    Some((Change::Rewritten(Rewriting::First { rule, before }), by))
+}
+
+/// The change that makes a choice that a hint on a cell offers, and what makes it, where that is one
+/// or two lines after all others, a precedence of the rule's own, or the order of two rules.
+fn change_of(asked: Question<'_>, hint: Hint, deed: Deed) -> Option<(Change, By)> {
+    if hint == Hint::First && deed == Deed::Reduce {
+        return order_of(asked);
+    }
+    let lines = |word| By { word, rule: None };
     if let Hint::Settle(rule, Advice::Own) = hint {
         let (token, shifts) = (asked.token, deed == Deed::Shift);
         let change = Change::Own {
@@ -153,7 +166,7 @@ fn change_of(asked: Question<'_>, hint: Hint, deed: Deed) -> Option<(Change, &'s
             token,
             shifts,
         };
-        return Some((change, directive_of(Associativity::Nonassoc)));
+        return Some((change, lines("%prec")));
     }
     let Mend {
         kind,
@@ -166,7 +179,24 @@ fn change_of(asked: Question<'_>, hint: Hint, deed: Deed) -> Option<(Change, &'s
         first,
         second,
     };
-    Some((change, directive_of(kind)))
+    Some((change, lines(directive_of(kind))))
+}
+
+/// Whether a hint of some class of conflicts offers a choice that can be tried.
+fn have_changes(tables: &Tables, lines: &Lines, blocks: &Blocks) -> bool {
+    for block in &blocks.list {
+        for class in &block.classes {
+            if let (Some(entry), Some(hint)) = (class.entries.first(), class.settled.hint) {
+                let asked = entry.cell(tables, lines);
+                for deed in [Deed::Shift, Deed::Reduce] {
+                    if change_of(asked, hint, deed).is_some() {
+                        return true;
+                    }
+                }
+            }
+        }
+    }
+    false
 }
 
 /// Tries the choices that are offered in the first classes of conflicts on sentences, unless there
@@ -176,7 +206,10 @@ pub fn try_choices(alloc: Global, tables: &Tables, lines: &Lines, blocks: &mut B
     if tables.automaton().states() > MOST_STATES || blocks.list.is_empty() {
         return Ok(());
     }
-    let pool = Pool::of(alloc, tables, blocks)?;
+    if !have_changes(tables, lines, blocks) {
+        return Ok(());
+    }
+    let mut pool = Pool::of(alloc, tables, blocks)?;
     if pool.sentences.is_empty() {
         return Ok(());
     }
@@ -191,10 +224,12 @@ pub fn try_choices(alloc: Global, tables: &Tables, lines: &Lines, blocks: &mut B
             }
             left = left.saturating_sub(1);
             for deed in [Deed::Shift, Deed::Reduce] {
-                if let Some((change, word)) = change_of(entry.cell(tables, lines), hint, deed) {
+                if let Some((change, by)) = change_of(entry.cell(tables, lines), hint, deed) {
                     if let Some(chosen) = tables_after(alloc, grammar, lines, change)? {
-                        let loss = pool.loss(alloc, grammar, &chosen, (deed, word))?;
-                        class.losses.push(loss)?;
+                        let loss = pool.loss(alloc, grammar, &chosen, (deed, by))?;
+                        if let Some(loss) = loss {
+                            class.losses.push(loss)?;
+                        }
                     }
                 }
             }
@@ -223,11 +258,12 @@ pub fn put_losses<W: Write>(out: &mut W, grammar: &Grammar, losses: &[Loss]) -> 
     }
     let mut mark = ':';
     for loss in losses {
-        let deed = match loss.deed {
-            Deed::Shift => "the shift",
-            Deed::Reduce => "the reduction",
-        };
-        write!(out, "{mark} {deed} by {} loses ", loss.word)?;
+        let word = loss.word;
+        match (loss.rule, loss.deed) {
+            (Some(rule), _) => write!(out, "{mark} rule {rule} in front loses ")?,
+            (None, Deed::Shift) => write!(out, "{mark} the shift by {word} loses ")?,
+            (None, Deed::Reduce) => write!(out, "{mark} the reduction by {word} loses ")?,
+        }
         match loss.lost {
             0 => write!(out, "none")?,
             lost => write!(out, "{lost}, such as{}", Names(grammar, &loss.first))?,

@@ -3,7 +3,8 @@
 use crate::ambiguity::are_twins;
 use yambiguity::answer::Answer;
 use ylists::list_text::is_merged;
-use ysearch::finding::Finding;
+use ymends::mending::Mended;
+use ysearch::finding::{Allows, Finding};
 
 /// What is offered.
 #[derive(Clone, Copy)]
@@ -12,8 +13,10 @@ pub enum Offer {
     Hints,
     /// Nothing, since no ambiguity was found.
     Lookahead,
-    /// Nothing, since the conflict comes of merged states.
-    Split,
+    /// Nothing, since the conflict comes of merged states; whether canonical sets don't have it.
+    Split(bool),
+    /// Nothing, since the conflict comes of an idiom, which precedences don't mend.
+    Idiom,
 }
 
 /// Why no choice is offered: in a grammar that isn't ambiguous sentences need each of the rivals.
@@ -26,10 +29,24 @@ impl Offer {
         if answers.is_empty() || are_twins(answers) {
             Offer::Hints
         } else if is_merged(finding) {
-            Offer::Split
+            let mut lists = finding.lists.iter();
+            Offer::Split(!lists.any(|list| list.allows != Allows::One))
         } else {
             Offer::Lookahead
         }
+    }
+
+    /// What is offered where a conflict comes of an idiom, or doesn't.
+    pub fn beside(self, mended: &Mended) -> Offer {
+        match mended.idiom {
+            Some(_) => Offer::Idiom,
+            None => self,
+        }
+    }
+
+    /// Whether no ambiguity was found.
+    pub fn is_open(self) -> bool {
+        matches!(self, Offer::Lookahead | Offer::Split(_))
     }
 
     /// Whether hints are offered.
@@ -42,20 +59,26 @@ impl Offer {
         match self {
             Offer::Hints => "hints",
             Offer::Lookahead => "lookahead",
-            Offer::Split => "split",
+            Offer::Split(_) => "split",
+            Offer::Idiom => "idiom",
         }
     }
 
     /// Sentences that say why there are no hints, and what helps.
     pub fn reasons(self) -> &'static [&'static str] {
         match self {
-            Offer::Hints => &[],
+            Offer::Hints | Offer::Idiom => &[],
             Offer::Lookahead => &[
                 LOSES,
                 "If more lookahead decides, write what the rules begin with once, so that the choice \
                  comes later, or let the lexer tell tokens apart.",
             ],
-            Offer::Split => &[LOSES],
+            Offer::Split(false) => &[LOSES],
+            Offer::Split(true) => &[
+                LOSES,
+                "It isn't there in canonical sets, as bison makes them by %define lr.type \
+                 canonical-lr, or as far as they are needed by %define lr.type ielr.",
+            ],
         }
     }
 }

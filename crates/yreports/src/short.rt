@@ -14,8 +14,10 @@ const MOST_TOKENS: usize = 40;
 
 const MOST_TRIALS: usize = 60_000;
 
-/// The most reductions before a token.
+/// The most reductions before a token, and all of them together.
 const MOST_REDUCTIONS: usize = 1_000;
+
+const ALL_REDUCTIONS: usize = 1_000_000;
 
 /// All sentences of up to so many tokens.
 #[derive(Drop)]
@@ -34,15 +36,15 @@ struct Prefix {
 }
 
 /// What tables do on a token: an action that takes it, or an error, also where too many reductions
-/// come first.
-fn taken(tables: &Tables, states: &mut Vec<usize>, token: Sym) -> Made<Action> {
-    for _ in 0..MOST_REDUCTIONS {
+/// come first; and how many came.
+fn taken(tables: &Tables, states: &mut Vec<usize>, token: Sym) -> Made<(Action, usize)> {
+    for count in 0..MOST_REDUCTIONS {
         match act(tables, states, token)? {
             Action::Reduce(_) => {}
-            action => return Ok(action),
+            action => return Ok((action, count)),
         }
     }
-    Ok(Action::Error)
+    Ok((Action::Error, MOST_REDUCTIONS))
 }
 
 /// What sentences are sought with: those of which all of a length are found first.
@@ -52,6 +54,7 @@ struct Search {
     prefixes: Vec<Prefix>,
     sentences: Vec<Vec<Sym>>,
     trials: usize,
+    reductions: usize,
 }
 
 impl Search {
@@ -64,7 +67,9 @@ impl Search {
         for token in END..token_count(tables.automaton().grammar()) {
             let mut states = Vec::from_slice(alloc, &prefix.states)?;
             let mut tokens = Vec::from_slice(alloc, &prefix.tokens)?;
-            match taken(tables, &mut states, token)? {
+            let (action, count) = taken(tables, &mut states, token)?;
+            self.reductions = self.reductions.saturating_add(count);
+            match action {
                 Action::Shift(_) if token != ERROR => {
                     tokens.push(token)?;
                     longer.push(Prefix { tokens, states })?;
@@ -90,6 +95,7 @@ pub fn short_sentences(alloc: Global, tables: &Tables) -> Made<Short> {
         prefixes: Vec::new(alloc),
         sentences: Vec::new(alloc),
         trials: 0,
+        reductions: 0,
     };
     search.prefixes.push(Prefix {
         tokens: Vec::new(alloc),
@@ -98,7 +104,8 @@ pub fn short_sentences(alloc: Global, tables: &Tables) -> Made<Short> {
     let (mut most, mut whole) = (0, 0);
     for place in 0..MOST_TRIALS {
         let length = search.prefixes.get(place).map_or(0, |it| it.tokens.len());
-        if search.sentences.len() > MOST_SENTENCES || search.trials > MOST_TRIALS {
+        let is_late = search.trials > MOST_TRIALS || search.reductions > ALL_REDUCTIONS;
+        if search.sentences.len() > MOST_SENTENCES || is_late {
             break;
         }
         if length > most {

@@ -1,12 +1,13 @@
 //! Copies of nonterminals that split states which were merged: each was tried by tables of its own.
 
-use crate::changed::conflicts_after;
-use crate::changed_text::Change;
 use std::alloc::Global;
 use std::io::{self, Write};
 use yexplain::lines::{Lines, is_inner};
 use yexplain::reads::{Made, body_of, grammar_of, left_of};
 use yexplain::text::{Name, Numbered};
+use ymends::changed::conflicts_after;
+use ymends::changed_text::Change;
+use ymends::words::are_left;
 use ysearch::groups::Kind;
 use ysymbols::{Grammar, Sym};
 use ytables::Tables;
@@ -97,15 +98,10 @@ impl Split {
     pub fn put<W: Write>(self, out: &mut W, grammar: &Grammar, lines: &Lines) -> io::Result<()> {
         let (name, rule) = (Name(grammar, self.symbol), Numbered(lines, self.rule));
         let (left, all) = (self.left, self.all);
-        let conflicts = if all == 1 {
-            "conflict is"
-        } else {
-            "conflicts are"
-        };
         write!(
             out,
             "  With a copy of {name}, which has the same rules, in {rule} "
         )?;
-        writeln!(out, "{left} of {all} {conflicts} left.")
+        writeln!(out, "{left} of {all} {} left.", are_left(left, all))
     }
 }

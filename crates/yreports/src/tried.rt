@@ -2,10 +2,10 @@
 
 use std::alloc::Global;
 use yexplain::lines::Lines;
-use yexplain::reads::Made;
+use yexplain::reads::{Made, set};
 use yexplain::supposed::{Contest, Supposed};
 use ysearch::groups::Conflicts;
-use ysymbols::Grammar;
+use ysymbols::{Grammar, Sym};
 use ytables::Tables;
 
 /// A cell that counts conflicts.
@@ -35,6 +35,21 @@ impl Marks {
             tokens: vec![in alloc; false; grammar.symbols()]?,
             rules: vec![in alloc; false; grammar.rules()]?,
         })
+    }
+
+    /// The same marks, and those of some tokens and of a rule.
+    pub fn with(&self, alloc: Global, tokens: &[Sym], rule: Option<usize>) -> Made<Marks> {
+        let mut marks = Marks {
+            tokens: Vec::from_slice(alloc, &self.tokens)?,
+            rules: Vec::from_slice(alloc, &self.rules)?,
+        };
+        for token in tokens {
+            set(&mut marks.tokens, *token, true);
+        }
+        if let Some(rule) = rule {
+            set(&mut marks.rules, rule, true);
+        }
+        Ok(marks)
     }
 }
 

@@ -7,4 +7,6 @@ s : 'x' A 'q'
   | t A
   ;
 r : 'x' %prec C ;
-t : 'x' %prec B ;
+t : 'x' %prec B
+  | 'z'
+  ;

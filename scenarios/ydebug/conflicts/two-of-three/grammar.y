@@ -1,4 +1,4 @@
-%token N
+%token N A
 %left '+'
 %left HIGH
 %%
@@ -8,4 +8,4 @@ s : e
   ;
 e : N '+' N ;
 f : N %prec HIGH ;
-g : N ;
+g : N | A ;

@@ -1,8 +1,9 @@
-//! A grammar without one of its rules, with a copy of a nonterminal, or with further precedences:
-//! written as a text without actions, which is read anew, so that its own tables tell how many
-//! conflicts it has, and which sentences they accept.
+//! A grammar without one of its rules, with a copy of a nonterminal, with rules that are written
+//! otherwise, or with further precedences: written as a text without actions, which is read anew, so
+//! that its own tables tell how many conflicts it has, and which sentences they accept.
 
 use crate::changed_text::{Change, Changed};
+use crate::rewriting::rewritten;
 use std::alloc::{AllocError, Global};
 use yexplain::lines::Lines;
 use yexplain::reads::Made;
@@ -43,7 +44,14 @@ pub fn tables_after(
         change,
     };
     let mut text = Vec::new(alloc);
-    if changed.put(&mut text).is_err() {
+    let is_written = match change {
+        Change::Rewritten(rewriting) => {
+            let rules = rewritten(alloc, grammar, lines, rewriting)?;
+            changed.put_written(&mut text, &rules)
+        }
+        _ => changed.put(&mut text),
+    };
+    if is_written.is_err() {
         return Err(AllocError);
     }
     tables_of(alloc, &text)
@@ -58,11 +66,13 @@ pub fn conflicts_after(
     change: Change,
 ) -> Made<Option<usize>> {
     match tables_after(alloc, grammar, lines, change)? {
-        Some(tables) => {
-            let counts = tables.conflicts();
-            let all = counts.shift_reduce.saturating_add(counts.reduce_reduce);
-            Ok(Some(all as usize))
-        }
+        Some(tables) => Ok(Some(conflicts_in(&tables))),
         None => Ok(None),
     }
+}
+
+/// How many conflicts tables have.
+pub fn conflicts_in(tables: &Tables) -> usize {
+    let counts = tables.conflicts();
+    counts.shift_reduce.saturating_add(counts.reduce_reduce) as usize
 }

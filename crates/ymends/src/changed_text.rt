@@ -1,5 +1,6 @@
 //! A changed grammar as the text of a grammar file, without actions.
 
+use crate::rewriting::{Rewriting, Written};
 use std::io::{self, Write};
 use yexplain::lines::{Lines, is_inner};
 use yexplain::reads::{body_of, left_of, level_of, name_of};
@@ -44,7 +45,7 @@ const OWN: &[u8] = b"own.precedence";
 
 /// Writes the line of a precedence of a rule's own.
 fn put_own<W: Write>(out: &mut W) -> io::Result<()> {
-    out.write_all(b"\n%nonassoc ")?;
+    out.write_all(b"\n%right ")?;
     out.write_all(OWN)?;
     writeln!(out)
 }
@@ -125,6 +126,8 @@ pub enum Change {
         /// The token of the second one, where there is one.
         second: Option<Sym>,
     },
+    /// With rules that are written otherwise.
+    Rewritten(Rewriting),
 }
 
 /// A grammar, where its rules stand, and what is changed.
@@ -140,6 +143,9 @@ pub struct Changed<'a> {
 
 /// What follows the name of a nonterminal in that of its copy.
 const COPY: &[u8] = b".copy";
+
+/// The name of a symbol that is new, which no file has.
+const FRESH: &[u8] = b"new.symbol";
 
 impl Changed<'_> {
     /// Writes a rule, with this after the name of its left side, and the token that gives it a
@@ -182,6 +188,13 @@ impl Changed<'_> {
         let grammar = self.grammar;
         match self.change {
             Change::Without(_) | Change::Copied { .. } => put_declarations(out, grammar, None),
+            Change::Rewritten(Rewriting::Token { .. }) => {
+                out.write_all(b"%token ")?;
+                out.write_all(FRESH)?;
+                writeln!(out)?;
+                put_declarations(out, grammar, None)
+            }
+            Change::Rewritten(_) => put_declarations(out, grammar, None),
             Change::Lines {
                 kind,
                 first,
@@ -201,9 +214,9 @@ impl Changed<'_> {
                 put_declarations(out, grammar, None)?;
                 if shifts {
                     put_own(out)?;
-                    return put_line(out, grammar, Associativity::Nonassoc, token);
+                    return put_line(out, grammar, Associativity::Right, token);
                 }
-                put_line(out, grammar, Associativity::Nonassoc, token)?;
+                put_line(out, grammar, Associativity::Right, token)?;
                 put_own(out)
             }
         }
@@ -226,6 +239,44 @@ impl Changed<'_> {
                     Changed { change, ..self }.put_rule(out, rule, COPY)?;
                 }
             }
+        }
+        Ok(())
+    }
+
+    /// Writes a symbol after a space, also a new one.
+    fn put_symbol<W: Write>(self, out: &mut W, symbol: Sym) -> io::Result<()> {
+        if symbol < self.grammar.symbols() {
+            return put_name(out, self.grammar, symbol);
+        }
+        out.write_all(b" ")?;
+        out.write_all(FRESH)
+    }
+
+    /// Writes the grammar with these rules in place of its own.
+    pub fn put_written<W: Write>(self, out: &mut W, rules: &[Written]) -> io::Result<()> {
+        self.put_lines(out)?;
+        out.write_all(b"\n%%\n")?;
+        for rule in rules {
+            self.put_symbol(out, rule.left)?;
+            out.write_all(b" :")?;
+            let mut is_last_action = false;
+            for symbol in &rule.body {
+                is_last_action = name_of(self.grammar, *symbol).starts_with(b"$$");
+                if is_last_action {
+                    out.write_all(b" {}")?;
+                } else {
+                    self.put_symbol(out, *symbol)?;
+                }
+            }
+            if is_last_action {
+                // an action at the end would be that of the rule
+                out.write_all(b" {}")?;
+            }
+            if let Some(giver) = rule.giver {
+                out.write_all(b" %prec")?;
+                put_name(out, self.grammar, giver)?;
+            }
+            out.write_all(b" ;\n")?;
         }
         Ok(())
     }

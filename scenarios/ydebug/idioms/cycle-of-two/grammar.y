@@ -1,0 +1,4 @@
+%token X Y
+%%
+a : b | X ;
+b : a | Y ;

@@ -1,0 +1,5 @@
+%token X Y
+%%
+s : o X ;
+o : | p ;
+p : | Y ;

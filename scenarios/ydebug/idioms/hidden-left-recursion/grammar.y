@@ -1,0 +1,4 @@
+%token T
+%%
+e : mark e '+' T | T ;
+mark : ;

@@ -1,0 +1,3 @@
+%token X Y
+%%
+s : s s | X | Y ;

@@ -1,0 +1,4 @@
+%token NUM
+%%
+e : e op e | NUM ;
+op : '+' | '*' ;

@@ -1,0 +1,4 @@
+%token X
+%%
+list : X | list sep X | list sep ;
+sep : | ';' ;

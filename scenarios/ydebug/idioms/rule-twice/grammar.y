@@ -1,0 +1,3 @@
+%token X Y
+%%
+s : X | Y s | X ;
