@@ -17,8 +17,9 @@ use yhtml::walk::Part;
 use yinput::grammars::GrammarFile;
 use yinput::language::LanguageFiles;
 use ymessages::run as messages;
+use yrules::rules;
 use ysentences::run as sentences;
-use yskeleton::rules;
+use ysentences::walk::Listed;
 
 /// What words ask for.
 #[derive(Drop)]
@@ -65,6 +66,7 @@ impl Asked<'_> {
 fn conflicts_in<'m>(matches: &'m ArgMatches<'_>) -> Result<Asked<'m>, Refused> {
     let asked = conflicts::Asked {
         grammar: grammar_in(matches)?,
+        all: is_given(matches, "all"),
         save: matches.get_str("save"),
         strict: matches.get_str("strict").is_some(),
         choice: choice_in(matches)?,
@@ -112,6 +114,8 @@ fn wrong_in(asked: messages::Asked<'_>) -> Option<&'static str> {
         Some("--update and --table don't go together")
     } else if asked.table == Some("") {
         Some("--table wants the name of a file")
+    } else if asked.alone && asked.messages.is_some() && !asked.update {
+        Some("--states lists blocks: it wants --update beside --messages FILE")
     } else {
         None
     }
@@ -124,6 +128,7 @@ fn errors_in<'m>(matches: &'m ArgMatches<'_>) -> Result<Asked<'m>, Refused> {
         messages: messages_in(matches)?,
         complete: is_given(matches, "complete"),
         update: is_given(matches, "update"),
+        alone: is_given(matches, "states"),
         table: matches.get_str("table"),
     };
     match wrong_in(asked) {
@@ -154,6 +159,10 @@ fn cover_in<'m>(matches: &'m ArgMatches<'_>) -> Result<Asked<'m>, Refused> {
         files: language_in(matches)?,
         inputs: matches.get_strs("tokens").unwrap_or(&[]),
         most: most_of(matches)?,
+        listed: Listed {
+            states: is_given(matches, "states"),
+            actions: is_given(matches, "actions"),
+        },
         strict: is_given(matches, "strict"),
     }))
 }

@@ -24,6 +24,8 @@ use yreports::report::{self, LIST_NAME, put_conflicts};
 pub struct Asked<'a> {
     /// The grammar file.
     pub grammar: GrammarFile<'a>,
+    /// Whether each conflict is explained whole.
+    pub all: bool,
     /// The folder in which each list becomes a tokens file.
     pub save: Option<&'a str>,
     /// Whether a conflict that isn't accepted, or a warning, makes the status 1.
@@ -119,6 +121,7 @@ impl<F: Files + AllocGlobal + Clone + Drop, R: Read, E: Write> Given<'_, F, R, E
         let report = report::Asked {
             grammar: asked.grammar.path,
             save: asked.save,
+            is_whole: asked.all || asked.save.is_some(),
             choice: asked.choice,
             is_open: judged.is_accepted().is_none(),
         };

@@ -9,7 +9,7 @@ use yfiles::reading::Limited;
 use yinput::language::{Input, Language, LanguageFiles};
 use yinput::verdict::{Verdict, verdict_on};
 use ysentences::elements::Elements;
-use ysentences::walk::{put_report, walk_all};
+use ysentences::walk::{Listed, put_report, walk_all};
 
 /// What is asked for: what inputs use.
 #[derive(Clone, Copy)]
@@ -20,6 +20,8 @@ pub struct Asked<'a> {
     pub inputs: &'a [&'a str],
     /// The most bytes of an input.
     pub most: u64,
+    /// What is listed beside rules.
+    pub listed: Listed,
     /// Whether what isn't used makes the status 1.
     pub strict: bool,
 }
@@ -37,6 +39,7 @@ fn put_uses<W: Write>(
     out: &mut W,
     opened: Opened,
     inputs: &[Input],
+    listed: Listed,
 ) -> io::Result<bool> {
     let Opened { tables, lines } = opened;
     let walked = walk_all(alloc, tables, inputs)?;
@@ -45,7 +48,7 @@ fn put_uses<W: Write>(
         lines: &lines,
         cells: &walked.cells,
     };
-    put_report(out, elements, &walked.uses)
+    put_report(out, elements, &walked.uses, listed)
 }
 
 impl<F: Files + AllocGlobal, R: Read, E: Write> Given<'_, F, R, E> {
@@ -90,7 +93,7 @@ impl<F: Files + AllocGlobal, R: Read, E: Write> Given<'_, F, R, E> {
         };
         let Inputs { read, status } = self.read_all(asked, &language, out)?;
         let Language { opened, .. } = language;
-        let is_all = put_uses(self.rt.alloc(), out, opened, &read)?;
+        let is_all = put_uses(self.rt.alloc(), out, opened, &read, asked.listed)?;
         Ok(if asked.strict && !is_all {
             status.max(1)
         } else {

@@ -8,23 +8,24 @@ pub const USAGE: &str = "usage: ydebug grammar tokens [--lex SPEC]\n";
 
 /// The other forms, and what holds of all, as help and usage have them.
 pub const FORMS: &str = "Other forms:\n\
-    \x20 ydebug conflicts grammar [--save FOLDER] [-WNAME] [--strict[=NAME]] [--expect N[,M]]\n\
-    \x20     [--accept FILE [--update]] [--format FORM]\n\
+    \x20 ydebug conflicts grammar [--all] [--save FOLDER] [-WNAME] [--strict[=NAME]]\n\
+    \x20     [--expect N[,M]] [--accept FILE [--update]] [--format FORM]\n\
     \x20 ydebug check grammar tokens.. [--lex SPEC] [--messages FILE] [--choice] [--plain]\n\
     \x20     [--format FORM] [-WNAME]\n\
-    \x20 ydebug errors grammar [--lex SPEC]\n\
+    \x20 ydebug errors grammar [--lex SPEC] [--states]\n\
     \x20     [--messages FILE [--complete] [--update | --table OUT]]\n\
     \x20 ydebug sentences grammar [--lex SPEC] [--cover KIND] [--near] [--save FOLDER]\n\
     \x20     [--strict]\n\
     \x20 ydebug sentences grammar --random N [--length L] [--seed S] [--lex SPEC] [--near]\n\
     \x20     [--save FOLDER] [--strict]\n\
-    \x20 ydebug cover grammar tokens.. [--lex SPEC] [--strict]\n\
+    \x20 ydebug cover grammar tokens.. [--lex SPEC] [--states] [--actions] [--strict]\n\
     \x20 ydebug page grammar tokens [--lex SPEC] [-o FILE] [--first K] [--last K] [--conflicts]\n\
     \x20 ydebug tokens grammar --lex SPEC input\n\
     \x20 ydebug lex-spec grammar\n\
     \x20 ydebug import file [-o grammar] [-WNAME]\n\
     \x20 ydebug rules grammar [--header FILE] [--python FILE]\n\
     \x20 ydebug table [-v] [-b PREFIX] grammar\n\
+    \x20 ydebug serve\n\
     A grammar file of bison or byacc is read as one; --dialect D (yacc, bison, auto) says which it is.\n\
     With --limit N an input has up to N bytes; without it, up to 16777216.\n";
 
@@ -107,6 +108,8 @@ pub enum Way {
     Files,
     /// An option without a value.
     Flag,
+    /// Such an option, and another name for it.
+    Flagged(&'static str),
     /// An option with a value, which help calls so.
     Value(&'static str),
     /// Such an option, which is required.
@@ -168,6 +171,11 @@ const WARNINGS: Argument = (
 
 const CONFLICTS: &[Argument] = &[
     GRAMMAR,
+    (
+        "all",
+        Way::Flag,
+        "Explains each conflict whole, also where another one comes of the same cause",
+    ),
     (
         "save",
         Way::Value("FOLDER"),
@@ -246,6 +254,11 @@ const ERRORS: &[Argument] = &[
         "Writes the file anew: its comments, and the states that are new",
     ),
     (
+        "states",
+        Way::Flag,
+        "Gives each state a block, also where the same tokens could come",
+    ),
+    (
         "table",
         Way::Value("OUT"),
         "Writes the messages as data for drivers to this file",
@@ -305,6 +318,12 @@ const COVER: &[Argument] = &[
     LEX,
     LIMIT,
     DIALECT,
+    ("states", Way::Flag, "Lists all states that aren't used"),
+    (
+        "actions",
+        Way::Flagged("cells"),
+        "Lists all actions that aren't used",
+    ),
     (
         "strict",
         Way::Flag,
@@ -393,6 +412,7 @@ fn argument<'a>(alloc: Global, (name, way, help): Argument) -> Result<Arg<'a>, A
         Way::File(shown) => arg.required(true).value_name(shown),
         Way::Files => arg.required(true).num_args(1..),
         Way::Flag => arg.long(name).action(ArgAction::SetTrue),
+        Way::Flagged(other) => arg.long(name).alias(other)?.action(ArgAction::SetTrue),
         Way::Value(shown) => arg.long(name).value_name(shown),
         Way::Wanted(shown) => arg.long(name).value_name(shown).required(true),
         Way::Renamed(shown, old) => arg.long(name).value_name(shown).alias(old)?,

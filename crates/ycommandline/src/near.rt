@@ -33,7 +33,7 @@ fn put_argument<W: Write>(out: &mut W, (name, way, _): Argument) -> io::Result<(
     match way {
         Way::File(shown) => write!(out, " {shown}"),
         Way::Files => write!(out, " {name}.."),
-        Way::Flag => write!(out, " [--{name}]"),
+        Way::Flag | Way::Flagged(_) => write!(out, " [--{name}]"),
         Way::Value(shown) | Way::Renamed(shown, _) => write!(out, " [--{name} {shown}]"),
         Way::Wanted(shown) => write!(out, " --{name} {shown}"),
         Way::Letter(letter, shown) => write!(out, " [-{letter} {shown}]"),

@@ -18,8 +18,8 @@ use yhtml::page::run_page;
 use yinput::language::LanguageFiles;
 use yinput::source::Source;
 use ymessages::run::run_errors;
+use yrules::rules::run_rules;
 use ysentences::run::run_sentences;
-use yskeleton::rules::run_rules;
 
 /// What the command line of a form makes of words. Help or the version that they ask for is written,
 /// and what is wrong with them.

@@ -20,6 +20,7 @@ use yexplain::text::Escaped;
 use yfiles::arguments::{Arguments, arguments_of};
 use yfiles::breaking::Breaking;
 use yfiles::steady::Steady;
+use yserve::serve::run_serve;
 
 /// Whether an environment variable is set to something that counts.
 fn is_set(rt: &HostRuntime, name: &str) -> bool {
@@ -61,12 +62,44 @@ fn setting_of(rt: &HostRuntime) -> Setting {
     }
 }
 
+/// What is said of the server for editors.
+const SERVE: &str = "Serves an editor: the Language Server Protocol over standard input and output
+
+Usage: ydebug serve
+
+  --stdio     Nothing else is done without it
+  -h, --help  Print help
+";
+
+/// Serves an editor, or says how that is asked for.
+fn serve(rt: &HostRuntime, words: &[&str]) -> Ended {
+    let mut out = BufWriter::new(rt.alloc(), rt.stdout())?;
+    match (words.first(), words.len()) {
+        (None | Some(&"--stdio"), 0 | 1) => Ok(run_serve(rt, rt.stdin(), &mut out)?),
+        (Some(&"-h" | &"--help"), 1) => {
+            out.write_all(SERVE.as_bytes())?;
+            out.flush()?;
+            Ok(0)
+        }
+        _ => {
+            writeln!(
+                rt.stderr(),
+                "ydebug serve takes no arguments but --stdio and --help"
+            )?;
+            Ok(2)
+        }
+    }
+}
+
 /// Does what arguments ask for. Where what is wrong can't be said, the work is done all the same,
 /// and that is how it ends.
 fn obey(rt: &HostRuntime, arguments: &[String]) -> Ended {
     let mut words = Vec::with_capacity(rt.alloc(), arguments.len())?;
     for word in arguments {
         words.push(word.as_str()).map_err(AllocError::from)?;
+    }
+    if words.get(1) == Some(&"serve") {
+        return serve(rt, words.get(2..).unwrap_or(&[]));
     }
     let mut out = BufWriter::new(rt.alloc(), rt.stdout())?;
     let columns = columns_of(rt, rt.stderr().is_terminal());

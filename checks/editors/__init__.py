@@ -1,0 +1,1 @@
+"""Editors as clients of the server."""

@@ -1,0 +1,148 @@
+//! What is wrong with a file, and what deserves a look, as an editor shows it.
+
+use crate::document::{Document, Fault};
+use crate::members::Members;
+use serde_json::Value;
+use std::alloc::{AllocError, Global};
+use std::rt::Files;
+use std::{io, str};
+use ydiagnostics::report::{Told, told_of};
+use yexplain::text::Escaped;
+use yfiles::category::Category;
+use yfiles::diagnostic::{Diagnostic, Severity};
+use yfiles::place::Spot;
+use yforeign::lexeme::Kind;
+
+/// A text; bytes that are no UTF-8 are shown as hexadecimal digits.
+fn text_of(alloc: Global, bytes: &[u8]) -> Result<String, AllocError> {
+    match str::from_utf8(bytes) {
+        Ok(text) => String::from_str(alloc, text),
+        Err(_) => {
+            let shown = Escaped(bytes);
+            format!(in alloc; "{shown}")
+        }
+    }
+}
+
+/// The number of how bad something is.
+fn severity_of(severity: Severity) -> usize {
+    match severity {
+        Severity::Error => 1,
+        Severity::Warning => 2,
+        Severity::Note => 3,
+    }
+}
+
+/// The code of what is said, where it has one, and how it is shown.
+fn with_code(alloc: Global, one: &Diagnostic) -> Result<Members, AllocError> {
+    let mut tags = Vec::new(alloc);
+    if matches!(one.category, Some(Category::Other | Category::Precedence)) {
+        tags.push(Value::from(1usize))?;
+    }
+    let told = Members::new(alloc).with("tags", Value::Array(tags))?;
+    match (one.code, one.category) {
+        (Some(code), _) => told.with_text("code", code),
+        (None, Some(category)) => told.with_text("code", category.name()),
+        (None, None) => Ok(told),
+    }
+}
+
+impl Document {
+    /// The part of the file that stands at a place: the lexeme that begins there, the byte there, or
+    /// the whole line, where there is no column.
+    fn part_at(&self, spot: Option<Spot>) -> (usize, usize) {
+        let Some(Spot { line, column }) = spot else {
+            return (0, 0);
+        };
+        let (start, end) = self.line(line.saturating_sub(1));
+        let Some(column) = column else {
+            return (start, end);
+        };
+        let from = start.saturating_add(column.saturating_sub(1)).min(end);
+        // an action without an end is shown where it begins
+        let (mut lexemes, all) = (self.index.lexemes.iter(), self.text.len());
+        let found = lexemes.find(|lexeme| {
+            let is_open = lexeme.kind == Kind::Braced && lexeme.span.to == all;
+            lexeme.span.from == from && !is_open
+        });
+        match found {
+            Some(lexeme) => (from, lexeme.span.to),
+            None => (from, from.saturating_add(1).min(end)),
+        }
+    }
+
+    /// What stands at other places, for one thing that is said.
+    fn related(&self, alloc: Global, one: &Diagnostic) -> Result<Value, AllocError> {
+        let mut related = Vec::new(alloc);
+        for note in &one.notes {
+            if note.spot.is_some() {
+                let (from, to) = self.part_at(note.spot);
+                let message = Value::from(text_of(alloc, &note.text)?);
+                let place = Members::new(alloc).with("message", message)?;
+                let location = self.location(alloc, from, to)?;
+                related.push(place.with("location", location)?.done())?;
+            }
+        }
+        Ok(Value::Array(related))
+    }
+
+    /// What is said, with what helps.
+    fn message(&self, alloc: Global, one: &Diagnostic) -> Result<String, AllocError> {
+        let mut message = String::new(alloc);
+        if !one.subject.is_empty() {
+            message.push_str(&text_of(alloc, &one.subject)?)?;
+            message.push_str(": ")?;
+        }
+        message.push_str(&text_of(alloc, &one.message)?)?;
+        for note in &one.notes {
+            if note.spot.is_none() {
+                message.push_str("\n")?;
+                message.push_str(&text_of(alloc, &note.text)?)?;
+            }
+        }
+        Ok(message)
+    }
+
+    /// One thing that is said of the file.
+    fn told(&self, alloc: Global, one: &Diagnostic) -> Result<Value, AllocError> {
+        let (from, to) = self.part_at(one.spot);
+        let told = with_code(alloc, one)?.with("range", self.range(alloc, from, to)?)?;
+        let told = told.with("severity", Value::from(severity_of(one.severity)))?;
+        let told = told.with("message", Value::from(self.message(alloc, one)?))?;
+        let told = told.with("relatedInformation", self.related(alloc, one)?)?;
+        Ok(told.with_text("source", "ydebug")?.done())
+    }
+
+    /// Looks at the file: what is said of it, which `ydebug conflicts` says of the same bytes. Its
+    /// tables are kept, where it has some.
+    pub fn check<F: Files + AllocGlobal>(&mut self, rt: &F) -> io::Result<Value> {
+        let alloc = rt.alloc();
+        let bytes = Vec::from_slice(alloc, &self.text)?;
+        let Told {
+            told,
+            conflicts,
+            opened,
+        } = told_of(rt, &self.uri, bytes)?;
+        let (mut all, mut faults) = (Vec::new(alloc), Vec::new(alloc));
+        for one in &told.all {
+            all.push(self.told(alloc, one)?).map_err(AllocError::from)?;
+            if let Some(code) = one.code {
+                let ((from, to), text) = (self.part_at(one.spot), self.message(alloc, one)?);
+                let text = format!(in alloc; "{code} {text}\n")?;
+                faults
+                    .push(Fault { text, from, to })
+                    .map_err(AllocError::from)?;
+            }
+        }
+        self.faults = faults;
+        self.choices = match &conflicts {
+            Some(conflicts) => self.choices_of(alloc, &conflicts.causes)?,
+            None => Vec::new(alloc),
+        };
+        if opened.is_some() {
+            self.opened = opened;
+        }
+        self.is_new = false;
+        Ok(Value::Array(all))
+    }
+}
