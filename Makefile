@@ -6,6 +6,7 @@
 # make bench      times whole runs of the programs, on growing grammars and over long parses; FILES="a.y b.y" adds grammar files to them
 # make refuse     refuses allocations of a run, each once and each with all later ones, on every example and some scenarios, and counts those of each line of every session; FILES="a.y b.y" refuses some thousands over these grammar files instead
 # make debug      refuses the allocations of twelve sessions and sixteen commands of ydebug in turn, gives it 100,000 random command lines over random grammars, and shows its screens at a terminal, which needs tmux
+# make editors    works on a grammar in Neovim and Emacs with ydebug serve, by the settings of docs/EDITORS.md; it takes neovim and emacs-nox with elpa-eglot
 # make page-test  steps through the pages of every example in a headless browser, which apt-get installs where it is missing, and compares them with ystep; runs the playground too, where it was made; keeps pictures in screenshots/
 # make compare    compares the programs that make build left with plain machines in Python, on grammars drawn at random, for a minute, its reports on conflicts with all canonical sets and with what it says for programs, verdicts with sessions over every scenario, errors with a search over all stacks, texts with a lexer in Python, and what hints and warnings on conflicts say with changed grammars, for a minute each; FILES="a.y b.y" adds these, cut off and spoiled, with a second reader
 # make parsers    compares the steps of parsers that ycc makes with those of ystep, over scenarios and 2,000 grammars at random, under other policies of default reductions with those of bison and byacc over 500, their messages for errors with those of ydebug, and builds the calculator of examples/calculator-c in every way; some minutes
@@ -31,7 +32,7 @@
 # make test       the gate: every proof from nothing, the mutants, the tests, the stored runs, make selftest, the scenarios, make hostile, make refuse over three examples, the allocations of every session, the parsers, the drivers, each comparison for half a minute at most, and the pages where there is a browser
 #
 # python3 -m checks --help lists all checks as commands; python3 -m checks scenario NAME runs one scenario.
-.PHONY: quick demo examples scenarios accept build bench refuse debug page-test compare parsers features packages drawn drivers library library-test playground playground-test wheel install uninstall dist deb deb-test imports hostile edits selftest try-install test
+.PHONY: quick demo examples scenarios accept build bench refuse debug editors page-test compare parsers features packages drawn drivers library library-test playground playground-test wheel install uninstall dist deb deb-test imports hostile edits selftest try-install test
 
 # The checks, and where `make build` leaves a program. Without a path a check takes crates/NAME/out/NAME.
 checks := python3 -m checks
@@ -71,6 +72,9 @@ debug: build
 	@$(checks) babble $(call at,ydebug)
 	@$(checks) terminal $(call at,ydebug)
 
+editors: build
+	@$(checks) editors $(call at,ydebug)
+
 page-test: build
 	@$(checks) pages --install $(call at,ydebug ystep)
 	@$(if $(wildcard bin/playground.html),$(checks) playground --install $(call at,ystep ydebug),true)
@@ -89,6 +93,7 @@ compare:
 parsers: build
 	@$(checks) parsers --drawn 2000 $(call at,yacc ystep ycc ydebug)
 	@$(checks) policies --drawn 500 $(call at,ycc)
+	@$(checks) classes --drawn 200 $(call at,ycc)
 
 features: build
 	@$(checks) features $(call at,ycc)

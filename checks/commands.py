@@ -30,10 +30,12 @@ GROUPS = {
         "terminal": "debugger.terminal",
         "pages": "pages.test",
         "page-sums": "pages.sums",
+        "editors": "editors.run",
     },
     "parsers and drivers": {
         "parsers": "parsers.parsers",
         "policies": "parsers.policies",
+        "classes": "parsers.classes",
         "drivers": "parsers.drivers",
     },
     "the library": {
@@ -51,8 +53,10 @@ GROUPS = {
     "times": {
         "bench": "times.programs",
         "bench-parsers": "times.parsers",
+        "bench-classes": "times.classes",
         "bench-drivers": "times.drivers",
         "bench-handles": "times.handles",
+        "bench-edits": "times.edits",
         "bench-grammar": "times.grammars",
         "sentence": "shared.sentences",
         "numbers": "times.traced",

@@ -36,6 +36,7 @@ RUNNERS = (
     ["refuse", "--few"],
     ["allocations"],
     ["parsers"],
+    ["classes", "--few", "--drawn=2"],
     ["drivers", "--sessions=200", "--tables=2000"],
     ["compare", SECONDS, "--turns=1000"],
     ["conflicts", SECONDS, "--turns=1000"],
@@ -52,7 +53,7 @@ RUNNERS = (
     ["pages"],
 )
 # What some of them need beside a C compiler; without it they are skipped.
-NEEDS = {"cells": "bison"}
+NEEDS = {"cells": "bison", "classes": "g++"}
 SKIPPED = "skipped: "
 PROOFS = "proofs"
 # What a line has that tells of a failure; how many failures of a runner are told again, and how many

@@ -5,11 +5,14 @@ from hashlib import sha256
 from pathlib import Path
 
 SUM = "stdout.sum"
-BACK = ("stdout", SUM, "message", "status")
+ANSWERS = "answers"
+BACK = ("stdout", SUM, ANSWERS, "message", "status")
 OWN = {"words", "called", "stdin", "about", "links", "streams", "environment", "left", "gone"}
+OWN |= {"requests"}
 OWN |= {*BACK}
 UNREAD = "unread"
 TIMES = ".times"
+FRAME = re.compile(rb"Content-Length: (\d+)\r\n\r\n")
 REPEATED = re.compile(rb"\*(\d+) (.*)\n?")
 
 
@@ -44,13 +47,16 @@ def entries_of(folder):
 
 
 def found_below(folder, is_root=True):
-    """Each scenario below a folder, and each folder that should be one or can't be looked at."""
+    """Each scenario below a folder, and each folder that should be one or can't be looked at.
+
+    A file of answers alone, which an example may have, makes none.
+    """
     try:
         files, folders = entries_of(folder)
     except Fault:
         files, folders = [], []
     named = {entry.name for entry in (*files, *folders)}
-    if not is_root and (not folders or named & OWN):
+    if not is_root and (not folders or named & OWN - {ANSWERS}):
         yield folder
         return
     for inner in folders:
@@ -122,6 +128,28 @@ def look_at_about(text):
         raise Fault("unread: read what came back, then take the first line off about")
 
 
+def framed(text):
+    """The messages of a file, one a line, as an editor sends them; what stands after `@` is sent as
+    it is, with the escapes of Python."""
+    sent = b""
+    for line in text.splitlines():
+        if line.startswith(b"@"):
+            sent += line[1:].decode("unicode_escape").encode("latin-1")
+        else:
+            sent += b"Content-Length: %d\r\n\r\n" % len(line) + line
+    return sent
+
+
+def unframed(text):
+    """The messages that came back, one a line, and then what stands in no frame."""
+    lines = b""
+    while found := FRAME.match(text):
+        end = found.end() + int(found[1])
+        lines += text[found.end() : end] + b"\n"
+        text = text[end:]
+    return lines + text
+
+
 def wanted_of(held, inputs):
     """What is wanted back: both streams, the status, and every file that lies there then."""
     wanted = {"stdout": b"", "message": b"", "status": b"0\n"}
@@ -131,13 +159,19 @@ def wanted_of(held, inputs):
             raise Fault(f"{path} is to be gone, and isn't there at first")
         del wanted[f"left/{path}"]
     back = {path: it for path, it in held.items() if path in BACK or path.startswith("left/")}
-    if SUM in back:
+    if "requests" in held:
+        wanted[ANSWERS] = b""
+    if SUM in back or "requests" in held:
         del wanted["stdout"]
     return {**wanted, **back}
 
 
 def summed(made, wanted):
-    """What came back, with the sum of standard output in its place where that is wanted."""
+    """What came back, with the sum of standard output in its place where that is wanted, or the
+    messages in it."""
+    if ANSWERS in wanted:
+        others = {path: it for path, it in made.items() if path != "stdout"}
+        return {**others, ANSWERS: unframed(made["stdout"])}
     if SUM not in wanted:
         return made
     others = {path: it for path, it in made.items() if path != "stdout"}
@@ -157,7 +191,7 @@ def read(folder, root, accepting):
     words = words_of(held["words"])
     pairs = [pairs_of(held.get(name, b"")) for name in ("links", "streams", "environment")]
     (links, streams, environment), wanted = pairs, wanted_of(held, inputs)
-    stdin = held.get("stdin", b"")
+    stdin = framed(held["requests"]) if "requests" in held else held.get("stdin", b"")
     called = called_in(held["called"]) if "called" in held else ""
     return Scenario(folder, words, stdin, inputs, links, streams, wanted, environment, called)
 

@@ -288,9 +288,9 @@ class Hints(Planted):
 
     def test_low(self):
         """A rule with a token of its own, above and below the line of the other."""
-        hint = "To choose, write %nonassoc LOW above {} A, and %prec LOW at the end of rule {}: it."
-        self.assertEqual(self.judged(hint.format("%nonassoc", 1)), [True])
-        self.assertEqual(self.judged(hint.format("%nonassoc", 2)), [False])
+        hint = "To choose, write %right LOW above {} A, and %prec LOW at the end of rule {}: it."
+        self.assertEqual(self.judged(hint.format("%right", 1)), [True])
+        self.assertEqual(self.judged(hint.format("%right", 2)), [False])
 
     def test_warnings(self):
         """A precedence that settles nothing, and one that does."""
@@ -328,6 +328,29 @@ class Choices(Planted):
         self.assertEqual(self.wrong(lost.format("B A B A B").replace("loses 1", "loses 2")), [True])
 
 
+    def test_order(self):
+        """Another order of two rules, and what it loses."""
+        rules = [("s", "A a B"), ("s", "A b"), ("a", "C"), ("b", "C"), ("b", "C B")]
+        draw = choices.Plain(["A", "B", "C"], [], rules)
+        report = ": warning: conflict 1:\n  reduce  rule 3 (line 4)\n  reduce  rule 4 (line 5)\n"
+        report += "  To choose, change the grammar.\n  Tried on all sentences of up to 3 tokens (2): {}.\n"
+        for said, wrong in ("loses none", False), ("loses 1, such as A C", True):
+            told = list(choices.judged(draw, report.format(f"rule 4 in front {said}")))
+            self.assertEqual([bool(it) for _, it in told], [wrong])
+
+    def test_changes(self):
+        """A rule that goes with another language, and with the same; how many conflicts stay."""
+        draw = choices.Plain(["X", "Y"], [], [("a", "a"), ("a", "X"), ("a", "Y")])
+        line = "  Without rule {} (line 3) {} of 1 conflict is left; the language stays the same."
+        for rule, left, wrong in (1, 0, False), (1, 1, True), (3, 0, True):
+            told = list(choices.judged(draw, line.format(rule, left)))
+            self.assertEqual([bool(it) for _, it in told], [wrong])
+
+    def test_planted(self):
+        """What the comparer plants is refused."""
+        self.assertEqual(list(choices.planted()), [])
+
+
 class OverTexts(Planted):
     """A grammar, and a SPEC for it."""
 
@@ -362,7 +385,7 @@ class Texts(OverTexts):
 
     def test_right(self):
         """What is right is no fault; the column and the tokens that can come are these."""
-        wanted = "text:2:3: error: unexpected NUM, expected $end or '+'\n    2 3 +\n      ^\n"
+        wanted = "text:2:3: error: unexpected NUM, expected end of input or '+'\n    2 3 +\n      ^\n"
         self.assertEqual(texts.answer(self.tables, self.spec, b"1 +\n2 3 +\n"), wanted)
         self.assertIsNone(self.fault())
 
@@ -381,7 +404,7 @@ class Texts(OverTexts):
     def test_each_change(self):
         """Another column, token, caret, status; a token less; a session that fails."""
         pairs = [
-            ("2:3", "2:4"), ("NUM", "'+'"), ("$end or ", ""), ("      ^", "     ^"), ("2 3 +", "2 3")
+            ("2:3", "2:4"), ("NUM", "'+'"), ("end of input or ", ""), ("      ^", "     ^"), ("2 3 +", "2 3")
         ]
         right = texts.answer(self.tables, self.spec, b"1 +\n2 3 +\n")
         for wrong in changed(right, *pairs):
@@ -494,7 +517,7 @@ class Errors(Planted):
         pairs += [("in 4 of 9", "in 5 of 9"), ("always: 5 7 8", "always: 5 7 8 4")]
         pairs += [("always: 5 7 8", "always: 5 7"), ("before them: 4", "before them: 5")]
         pairs += [("since it is detected before them", "since each token has an action")]
-        start, end = report.index("A A\n"), report.index("A B A\n")
+        start, end = report.index("A A\n"), report.index("A B C\n")
         gone = report[:start] + report[end:]
         fewer = gone.replace("in 4 of 9", "in 3 of 9")
         hidden = fewer.replace("before them: 4", "before them: 2 4")

@@ -2,7 +2,7 @@
 import random
 from unittest import mock
 
-from checks.parsers import drivers, messages, parsers, policies, spoil
+from checks.parsers import classes, drivers, messages, parsers, policies, spoil
 from checks.parsers.pairs import Case, digest_in, said_in
 from checks.shared.places import EXAMPLES
 from checks.shared.table_file import table_of
@@ -45,8 +45,8 @@ class Parsers(Planted):
         """The calculator, built in any way, with a sum that is wrong."""
         right = (parsers.CALCULATOR / "answers").read_bytes()
         for answers, wrong in ((right, False), (right.replace(b"7", b"8", 1), True), (b"", True)):
-            with mock.patch.multiple(parsers, calculator=mock.Mock(), sums_of=lambda _: answers):
-                job = parsers.compare_calculator, "ycc", [], "cc", "-std=c90"
+            with mock.patch.multiple(parsers, calculator=mock.Mock(), sums_of=lambda *_: answers):
+                job = parsers.compare_calculator, parsers.CALCULATOR, "ycc", [], "cc", "-std=c90"
                 self.assertEqual(bool(parsers.wrong(job)), wrong)
 
     def test_messages(self):
@@ -78,6 +78,39 @@ class Parsers(Planted):
             ):
                 job = parsers.ran, ["cc"], "the compiler"
                 self.assertEqual(bool(parsers.wrong(job)), wrong)
+
+
+class Classes(Planted):
+    """Parsers of `ycc` in C++, and examples of bison."""
+
+    def fault(self, text, status=0):
+        """What is wrong with a parser in C++ that writes this, beside one in C."""
+        right = f"sys.stdout.write({MADE!r})\n"
+        texts = right, f"sys.stdout.write({text!r}); sys.exit({status})\n"
+        first, second = (self.program(f"parser{at}", it) for at, it in enumerate(texts))
+        with mock.patch.multiple(classes, in_c=lambda *_: first, in_cxx=lambda *_: second):
+            return classes.wrong((classes.compare, b"%%", [["'x'"]], "ycc"))
+
+    def test_each_step(self):
+        """Another step, a step too many or too few, another status."""
+        self.each_caught(self.fault, MADE, *changed(MADE, ("s 2", "s 1"), ("a 0\n", "")), "")
+        self.assertTrue(self.fault(MADE, status=1))
+
+    def test_examples(self):
+        """An example that says something else, or ends otherwise, than as bison builds it."""
+        right = 0, b"7\n", b""
+        for made, wrong in ((right, False), ((1, *right[1:]), True), ((0, b"8\n", b""), True)):
+            builder = mock.Mock(side_effect=[right, made])
+            job = classes.compare_example, "ycc", builder, "calc"
+            self.assertEqual(bool(classes.wrong(job)), wrong, made)
+
+    def test_answers(self):
+        """The calculator with a sum that is wrong."""
+        right = (classes.CALCULATOR / "answers").read_bytes()
+        for answers, wrong in ((right, False), (right.replace(b"7", b"8", 1), True), (b"", True)):
+            with mock.patch.multiple(classes, ran=mock.Mock(), sums_of=lambda _, it=answers: it):
+                job = classes.compare_calculator, "ycc", [], "c++", "-std=c++11"
+                self.assertEqual(bool(classes.wrong(job)), wrong)
 
 
 BISON = """l
@@ -147,7 +180,7 @@ class Drivers(Planted):
 
     def test_said(self):
         """Another text for the first error, none, and one where there is no error."""
-        text = "unexpected 'x', expected $end"
+        text = "unexpected 'x', expected end of input"
         case = CASE._replace(said=text)
         for case, result, counts in (
             (case, f"failed: {text}", (1, 0)),
@@ -208,8 +241,8 @@ class Drivers(Planted):
 
     def test_verdicts(self):
         """What a verdict says of an error."""
-        told = b"tokens: error: rejected at token 2: unexpected 'x', expected $end; can't tell of 'y'\n  after"
-        self.assertEqual(said_in(told), "unexpected 'x', expected $end")
+        told = b"tokens: error: rejected at token 2: unexpected 'x', expected end of input; can't tell of 'y'\n  after"
+        self.assertEqual(said_in(told), "unexpected 'x', expected end of input")
         self.assertEqual(said_in(b"tokens: accepted after 3 steps\n"), "")
         self.assertIsNone(said_in(b"tokens: undecided after 1,000,000 steps\n"))
 

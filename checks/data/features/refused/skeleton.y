@@ -1,5 +1,4 @@
-%token A
 /* refused below: %skeleton */
-%skeleton "lalr1.cc"
+%skeleton "lalr1.java"
 %%
-all : A ;
+all : ;

@@ -21,6 +21,8 @@ static int yyreport_syntax_error (const yypcontext_t *ctx)
 {
   yysymbol_kind_t expected[3];
   yysymbol_kind_t found = yypcontext_token (ctx);
+  int few = yypcontext_expected_tokens (ctx, expected, 2);
+  yysymbol_kind_t first = expected[0];
   int at, many = yypcontext_expected_tokens (ctx, NULL, 0);
   int count = yypcontext_expected_tokens (ctx, expected, 3);
 
@@ -28,7 +30,8 @@ static int yyreport_syntax_error (const yypcontext_t *ctx)
           found == YYSYMBOL_YYEMPTY ? "nothing" : yysymbol_name (found));
   if (found == YYSYMBOL_NUMBER || found == YYSYMBOL_YYUNDEF)
     printf (" (%d)", found == YYSYMBOL_NUMBER);
-  printf (", %d of %d:", count, many);
+  printf (", %s and %d of 2, %d of %d:",
+          first == YYSYMBOL_YYEMPTY ? "nothing" : yysymbol_name (first), few, count, many);
   for (at = 0; at < count; at++)
     printf (" %s", yysymbol_name (expected[at]));
   printf ("\n");

@@ -1,5 +1,0 @@
-/* refused below: %language */
-%language "c++"
-%token A
-%%
-all : A ;

@@ -1,5 +1,0 @@
-%token A
-/* refused below: api.push-pull */
-%define api.push-pull both
-%%
-all : A ;

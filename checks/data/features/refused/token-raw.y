@@ -1,5 +1,0 @@
-%token A
-/* refused below: api.token.raw */
-%define api.token.raw
-%%
-all : A ;

@@ -1,0 +1,5 @@
+/* bison tells: */
+%define locations perhaps
+%token A
+%%
+s : A ;

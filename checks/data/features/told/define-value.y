@@ -1,0 +1,5 @@
+/* bison tells: */
+%token A
+  %define lr.default-reduction few
+%%
+s : A ;

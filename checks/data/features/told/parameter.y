@@ -1,0 +1,5 @@
+/* bison tells: */
+%parse-param { }
+%token A
+%%
+s : A ;

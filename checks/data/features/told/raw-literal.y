@@ -1,0 +1,5 @@
+/* bison tells: */
+%define api.token.raw
+%token A
+%%
+s : A 'b' 'c' ;

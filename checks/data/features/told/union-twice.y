@@ -1,0 +1,6 @@
+/* bison tells: */
+%define api.value.type {int}
+%union { int n; }
+%token A
+%%
+s : A ;

@@ -1,0 +1,4 @@
+%token X
+%%
+list : | list item ;
+item : | X ';' ;

@@ -1,0 +1,5 @@
+%token ID
+%%
+grammar : | grammar rule ;
+rule : ID ':' body ;
+body : | body ID ;
