@@ -5,7 +5,7 @@
 # make build      proves the programs and leaves them in bin/
 # make bench      times whole runs of the programs, on growing grammars and over long parses; FILES="a.y b.y" adds grammar files to them
 # make refuse     refuses allocations of a run, each once and each with all later ones, on every example and some scenarios, and counts those of each line of every session; FILES="a.y b.y" refuses some thousands over these grammar files instead
-# make debug      refuses the allocations of twelve sessions and sixteen commands of ydebug in turn, gives it 100,000 random command lines over random grammars, and shows its screens at a terminal, which needs tmux
+# make debug      refuses the allocations of twelve sessions and sixteen commands of ydebug in turn, gives it 100,000 random command lines over random grammars, shows its screens at a terminal, and types at the script that make install copies, which needs tmux and rlwrap
 # make editors    works on a grammar in Neovim and Emacs with ydebug serve, by the settings of docs/EDITORS.md; it takes neovim and emacs-nox with elpa-eglot
 # make page-test  steps through the pages of every example in a headless browser, which apt-get installs where it is missing, and compares them with ystep; runs the playground too, where it was made; keeps pictures in screenshots/
 # make compare    compares the programs that make build left with plain machines in Python, on grammars drawn at random, for a minute, its reports on conflicts with all canonical sets and with what it says for programs, verdicts with sessions over every scenario, errors with a search over all stacks, texts with a lexer in Python, and what hints and warnings on conflicts say with changed grammars, for a minute each; FILES="a.y b.y" adds these, cut off and spoiled, with a second reader
@@ -19,7 +19,7 @@
 # make library-test  runs that library: the scenarios of ystep through C and Python, every room, refused memory, threads; some minutes
 # make playground  makes bin/playground.html, one page for grammars and parses with the library in it, as a WebAssembly module, in a checkout whose crates were proved
 # make playground-test  runs it: the module by node on the scenarios of ystep and on 2,000 grammars at random, the page in headless browsers, which apt-get installs where they are missing
-# make install    copies programs, manual pages, completions, drivers and books below PREFIX (/usr/local), and with DESTDIR below that; make build comes first. The library and its module for Python, which goes to PYTHONDIR (lib/python3/dist-packages), are copied where make library built it, but for NO_LIBRARY=1, and the playground where make playground did. The yacc that writes tables and no C goes to libexec/sulderko; TABLE_WRITER=1 puts it into bin. YACC_LINK=1 makes bin/yacc a symbolic link to ycc, for builds that call it so, and BISON_LINK=1 bin/bison
+# make install    copies programs, manual pages, completions, drivers and books below PREFIX (/usr/local), and with DESTDIR below that; make build comes first. The library and its module for Python, which goes to PYTHONDIR (lib/python3/dist-packages), are copied where make library built it, but for NO_LIBRARY=1, and the playground where make playground did. The yacc that writes tables and no C goes to libexec/sulderko; TABLE_WRITER=1 puts it into bin. bin/ydebug is a script that gives a session at a terminal rlwrap and a way back from Ctrl-C, and starts libexec/sulderko/ydebug. YACC_LINK=1 makes bin/yacc a symbolic link to ycc, for builds that call it so, and BISON_LINK=1 bin/bison
 # make uninstall  takes the same files away; a bin/yacc or bin/bison that isn't ours stays
 # make dist       packs what git has of this state into bin/; its name has what VERSION says
 # make deb        makes Debian packages in bin/ of the programs and the library there; make deb-test tries them in a scratch root, with lintian, CMake and Meson (packaging/README.md says what both need)
@@ -71,6 +71,7 @@ debug: build
 	@$(checks) refuse-debugger $(call at,ydebug)
 	@$(checks) babble $(call at,ydebug)
 	@$(checks) terminal $(call at,ydebug)
+	@$(checks) keys $(call at,ydebug)
 
 editors: build
 	@$(checks) editors $(call at,ydebug)
@@ -141,13 +142,15 @@ wheel:
 
 # The files that name where things are.
 writer := $(if $(TABLE_WRITER),bin/yacc,libexec/sulderko/yacc)
-filled := bin/ydriver.pc bin/sulderko.pc bin/SulderkoConfig.cmake bin/SulderkoConfigVersion.cmake
+filled := bin/ydriver.pc bin/sulderko.pc bin/ydebug.sh bin/SulderkoConfig.cmake bin/SulderkoConfigVersion.cmake
 fill = mkdir -p bin && sed 's,@PREFIX@,$(PREFIX),; s,@LIBDIR@,$(LIBDIR),; s,@WRITER@,$(writer),; s,@VERSION@,$(VERSION),' $< > $@
 
 .PHONY: $(filled)
 bin/ydriver.pc: drivers/c/ydriver.pc.in
 	@$(fill)
 bin/sulderko.pc: packaging/sulderko.pc.in
+	@$(fill)
+bin/ydebug.sh: packaging/ydebug.in
 	@$(fill)
 bin/SulderkoConfig.cmake bin/SulderkoConfigVersion.cmake: bin/%.cmake: packaging/cmake/%.cmake.in
 	@$(fill)
@@ -156,7 +159,8 @@ bin/SulderkoConfig.cmake bin/SulderkoConfigVersion.cmake: bin/%.cmake: packaging
 define copies
 755 bin/ycc bin/ycc
 755 bin/ystep bin/ystep
-755 bin/ydebug bin/ydebug
+755 bin/ydebug libexec/sulderko/ydebug
+755 bin/ydebug.sh bin/ydebug
 644 man/ycc.1 share/man/man1/ycc.1
 644 man/ystep.1 share/man/man1/ystep.1
 644 man/ydebug.1 share/man/man1/ydebug.1

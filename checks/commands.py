@@ -28,6 +28,7 @@ GROUPS = {
         "refuse-debugger": "debugger.refuse",
         "babble": "debugger.babble",
         "terminal": "debugger.terminal",
+        "keys": "debugger.keys",
         "pages": "pages.test",
         "page-sums": "pages.sums",
         "editors": "editors.run",

@@ -91,7 +91,7 @@ if test -e "$all/$libraries/libsulderko.a"; then pack_library; else echo "no lib
 mv "$room/all" "$room/debian/sulderko"
 all=$room/debian/sulderko/usr
 cp "$top/CHANGELOG.md" "$all/share/doc/sulderko/CHANGELOG.md"
-set -- "$all"/bin/* "$all"/libexec/sulderko/*
+set -- "$all/bin/ycc" "$all/bin/ystep" "$all"/libexec/sulderko/*
 strip --strip-unneeded --remove-section=.comment --remove-section=.note "$@"
 strip --strip-debug --enable-deterministic-archives "$all/$libraries/libydriver.a"
 pack sulderko "$(needs sulderko "$@")"

@@ -23,7 +23,8 @@ from checks.shared.grammars import grammar_of, text_of, tokens_of
 from checks.shared.tally import Tally
 
 VERBS = """step back to run where stack upcoming state expected why rule symbol grammar tree
-derivation history insert drop save save! conflicts reload help""".split()
+derivation history insert drop save save! conflicts reload help continue next finish break
+breaks delete list errors n c l bt""".split()
 CONDITIONS = "shift reduce error conflict state token depth accept".split()
 NUMBERS = [0, 1, 2, 3, 5, 9, 20, 100, 1_000_000, 1_000_001]
 ODD = ["", " ", "\t", "until", "all", "\x7f", "é", "''", "'", "%", "-1", "+1", "0x1"]

@@ -27,6 +27,7 @@ from checks.shared.arguments import asked
 from checks.shared.grammars import pair_of
 from checks.shared.libraries import compiler
 from checks.shared.places import EXAMPLES
+from checks.shared.reader import Fault
 from checks.shared.spelling import bare, names_of
 from checks.shared.tally import Tally
 
@@ -54,6 +55,9 @@ READLINE = Path("/usr/include/readline/readline.h")
 
 # Each of so many grammars of scenarios is taken, and where few are.
 SHARE, FEW = 4, 64
+# How a parser in C ends whose stack is full, as that of one in C++ never is, and one that gets a
+# name that is no token.
+BEYOND = 4, 6
 MOST = 20_000
 
 FRONT = b"""%{
@@ -167,6 +171,8 @@ def compare(grammar, lists, ycc):
         second = in_cxx(folder, grammar, ycc, options)
         for names in lists:
             given = "".join(f"{it}\n" for it in names).encode()
+            if running.ran([first], None, given).returncode in BEYOND:
+                continue
             wanted, made = ran([first], "in C", given), ran([second], "in C++", given)
             if wanted != made:
                 raise Differs(f"{grammar.decode()}\n{names}\nin C:\n{wanted}\nin C++:\n{made}")
@@ -257,10 +263,20 @@ def wrong(job):
         return [f"{differs}\n"]
 
 
+def is_plain(grammar):
+    """Whether a grammar is a file for yacc, whose declarations and rules another file can have."""
+    try:
+        bare(grammar)
+    except Fault:
+        return False
+    return True
+
+
 def by_grammar(given):
     """The lists of tokens of each grammar."""
     rng = random.Random(given.seed)
     pairs = [it for it in dict.fromkeys(pairs_of_scenarios()) if len(it[0]) < LONGEST]
+    pairs = [it for it in pairs if is_plain(it[0])]
     pairs = [it for it in pairs if zlib.crc32(it[0]) % (FEW if given.few else SHARE) == 0]
     pairs += [pair_of(rng) for _ in range(given.drawn)]
     found = {}

@@ -21,11 +21,24 @@ use yrules::rules;
 use ysentences::run as sentences;
 use ysentences::walk::Listed;
 
+/// What is asked for: a session.
+#[derive(Clone, Copy)]
+pub struct SessionAsked<'a> {
+    /// The files of the language.
+    pub files: LanguageFiles<'a>,
+    /// The input.
+    pub input: Limited<'a>,
+    /// The path of a script.
+    pub script: Option<&'a str>,
+    /// The path of a journal.
+    pub journal: Option<&'a str>,
+}
+
 /// What words ask for.
 #[derive(Drop)]
 pub enum Asked<'a> {
-    /// A session over the files of a language and an input.
-    Session(LanguageFiles<'a>, Limited<'a>),
+    /// A session.
+    Session(SessionAsked<'a>),
     /// A report on conflicts.
     Conflicts(conflicts::Asked<'a>),
     /// Verdicts on inputs.
@@ -54,7 +67,7 @@ impl Asked<'_> {
     /// Whether what is written is for people alone, so that long lines may be broken.
     pub fn is_for_people(&self) -> bool {
         match self {
-            Asked::Session(..) | Asked::Cover(_) => true,
+            Asked::Session(_) | Asked::Cover(_) => true,
             Asked::Conflicts(asked) => form_of(asked.format) == Some(Format::Text),
             Asked::Check(asked) => asked.inputs.format == Format::Text && !asked.plain,
             _ => false,
@@ -186,8 +199,13 @@ fn page_of<'m>(matches: &'m ArgMatches<'_>) -> Result<Asked<'m>, Refused> {
 pub fn asked_in<'m>(form: Form, matches: &'m ArgMatches<'_>) -> Result<Asked<'m>, Refused> {
     match form {
         Form::Debug => {
-            let (files, input) = (language_in(matches)?, input_in(matches)?);
-            Ok(Asked::Session(files, input))
+            let asked = SessionAsked {
+                files: language_in(matches)?,
+                input: input_in(matches)?,
+                script: matches.get_str("script"),
+                journal: matches.get_str("journal"),
+            };
+            Ok(Asked::Session(asked))
         }
         Form::Conflicts => conflicts_in(matches),
         Form::Check => check_in(matches),

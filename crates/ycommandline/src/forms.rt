@@ -4,7 +4,7 @@ use clap::{Arg, ArgAction, Command};
 use std::alloc::{AllocError, Global};
 
 /// How a session is asked for; the other forms are those of [`FORMS`].
-pub const USAGE: &str = "usage: ydebug grammar tokens [--lex SPEC]\n";
+pub const USAGE: &str = "usage: ydebug grammar tokens [--lex SPEC] [--script FILE]\n";
 
 /// The other forms, and what holds of all, as help and usage have them.
 pub const FORMS: &str = "Other forms:\n\
@@ -161,7 +161,23 @@ const FORMAT: Argument = (
     "gcc: a line for each thing; json: a document; text: for people",
 );
 
-const DEBUG: &[Argument] = &[GRAMMAR, INPUT, LEX, LIMIT, DIALECT];
+const DEBUG: &[Argument] = &[
+    GRAMMAR,
+    INPUT,
+    LEX,
+    (
+        "script",
+        Way::Value("FILE"),
+        "Follows the commands of this file first, a line for each",
+    ),
+    (
+        "journal",
+        Way::Value("FILE"),
+        "Goes on where this file says, and keeps in it where the session is",
+    ),
+    LIMIT,
+    DIALECT,
+];
 
 const WARNINGS: Argument = (
     "W",

@@ -1,6 +1,6 @@
 //! What is done with what a run is given: what its words ask for.
 
-use crate::asked::{Asked, asked_in};
+use crate::asked::{Asked, SessionAsked, asked_in};
 use crate::ending::{Ended, Refused};
 use crate::forms::{Form, command_of, form_of};
 use crate::given::Given;
@@ -10,12 +10,12 @@ use clap::error::ErrorKind;
 use std::alloc::{AllocError, Global};
 use std::io::{self, Read, Write};
 use std::rt::Files;
-use ydebugger::debug;
+use ydebugger::{Beginning, debug};
 use yfiles::breaking::Breaking;
-use yfiles::reading::Limited;
+use yfiles::diagnostic::Diagnostics;
+use yfiles::reading::{LONGEST_INPUT, Limited};
 use yfrontend::import::run_import;
 use yhtml::page::run_page;
-use yinput::language::LanguageFiles;
 use yinput::source::Source;
 use ymessages::run::run_errors;
 use yrules::rules::run_rules;
@@ -58,18 +58,40 @@ fn named<'a>(alloc: Global, form: Form, words: &[&'a str]) -> Result<Vec<&'a str
     Ok(named)
 }
 
+/// What a session begins with.
+fn beginning_of<'x>(script: &'x [u8], journal: Option<&'x str>) -> Beginning<'x> {
+    Beginning { script, journal }
+}
+
 impl<F: Files + AllocGlobal + Clone + Drop, R: Read + Drop, E: Write> Given<'_, F, R, E> {
+    /// The commands of a script; none without one. Where it can't be read, that is said, and the
+    /// exit status is the answer.
+    fn script_of(&mut self, path: Option<&str>) -> io::Result<Result<Vec<u8>, u8>> {
+        let (alloc, most) = (self.rt.alloc(), LONGEST_INPUT);
+        let Some(path) = path else {
+            return Ok(Ok(Vec::new(alloc)));
+        };
+        let mut told = Diagnostics::new(alloc);
+        let read = Limited { path, most }.bytes_or_status(self.rt, false, &mut told)?;
+        told.put(&mut self.errors, "ydebug")?;
+        Ok(read)
+    }
+
     /// A session.
-    fn run_session<W: Write>(
-        &mut self,
-        files: LanguageFiles<'_>,
-        input: Limited<'_>,
-        out: &mut W,
-    ) -> io::Result<u8> {
-        let rt = self.rt;
+    fn run_session<W: Write>(&mut self, asked: SessionAsked<'_>, out: &mut W) -> io::Result<u8> {
+        let script = match self.script_of(asked.script)? {
+            Ok(script) => script,
+            Err(status) => return Ok(status),
+        };
+        let (rt, files, input) = (self.rt, asked.files, asked.input);
         let source = Source { rt, files, input };
         match source.open(&mut self.errors)? {
-            Ok(parse) => debug(&source, self.setting, parse, &mut self.input, out).map(|()| 0),
+            Ok(parse) => {
+                let beginning = beginning_of(&script, asked.journal);
+                let (setting, reader) = (self.setting, &mut self.input);
+                debug(&source, setting, parse, beginning, reader, out)?;
+                Ok(0)
+            }
             Err(status) => {
                 // Why there is no session is said; memory may have run out, and a hint is no more.
                 let _ = put_near_form(rt, &mut self.errors, files.grammar.path);
@@ -82,7 +104,7 @@ impl<F: Files + AllocGlobal + Clone + Drop, R: Read + Drop, E: Write> Given<'_, 
     fn answer<W: Write>(&mut self, asked: Asked<'_>, out: &mut W) -> io::Result<u8> {
         let rt = self.rt;
         match asked {
-            Asked::Session(files, input) => self.run_session(files, input, out),
+            Asked::Session(asked) => self.run_session(asked, out),
             Asked::Conflicts(asked) => self.run_conflicts(asked, out),
             Asked::Check(asked) => self.run_check(asked, out),
             Asked::Errors(asked) => run_errors(rt, asked, out, &mut self.errors),

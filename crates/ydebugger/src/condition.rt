@@ -37,6 +37,10 @@ pub enum Condition {
     Depth(usize),
     /// The input was accepted.
     Accept,
+    /// A token of the input was shifted.
+    AnyShift,
+    /// The entry that stood on top at this depth is part of a reduction, or was popped.
+    Top(usize),
 }
 
 /// Each condition by its word, with 0 where a name or a number has to follow.
@@ -112,6 +116,8 @@ pub fn condition_of(session: &Session, tokens: usize, text: &str) -> Result<Cond
         }
         Condition::Token(_) => number_in(name, "tokens", 1, tokens).map(Condition::Token),
         Condition::Depth(_) => number_in(name, "depths", 0, DEEPEST).map(Condition::Depth),
+        // These two have no word of their own: they are those of next and finish.
+        Condition::AnyShift | Condition::Top(_) => Err(Refusal::NoCondition),
     }
 }
 
@@ -150,6 +156,10 @@ impl Condition {
             }
             (Condition::Error, StepKind::Detect) => true,
             (Condition::Accept, StepKind::Accept) => true,
+            (Condition::AnyShift, StepKind::Shift(_)) => true,
+            // a reduction puts one entry in the place of those that it took
+            (Condition::Top(depth), StepKind::Reduce(_)) => session.view().stack_len() <= depth,
+            (Condition::Top(depth), StepKind::Pop(_)) => session.view().stack_len() < depth,
             (Condition::Conflict, _) => {
                 let conflict = conflict_of(tables, session.state(), token_ahead(session));
                 session.view().mode() == Mode::Running && conflict.is_some()
@@ -176,6 +186,8 @@ impl Condition {
             Condition::Token(place) => write!(page, "token {place}"),
             Condition::Depth(depth) => write!(page, "depth {depth}"),
             Condition::Accept => write!(page, "acceptance"),
+            Condition::AnyShift => write!(page, "shift of a token"),
+            Condition::Top(_) => write!(page, "reduction of the entry on top"),
         };
     }
 }

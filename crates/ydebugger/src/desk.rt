@@ -1,13 +1,17 @@
 //! The loop over command lines.
 
+use crate::breaks::Breaks;
+use crate::condition::{condition_of, number_in};
 use crate::edits::{insert, put_edit, save};
 use crate::help::{put_candidates, put_unknown, show_help, verb_of};
+use crate::history::{has_edits, put_errors};
+use crate::journal::{keep, resume};
 use crate::lines::{Came, LONGEST, next_line};
 use crate::moves::make_move;
 use crate::refusal::{Refusal, misused, put_refusal};
 use crate::reload::reload;
-use crate::text::{put_ahead, put_upcoming};
-use crate::travel::{Move, move_of, name_at_fault};
+use crate::text::{list, put_ahead, put_upcoming};
+use crate::travel::{LAST, Move, condition_at_fault, move_of, name_at_fault};
 use crate::verb::Verb;
 use crate::views::View;
 use crate::words::{Found, first_word};
@@ -15,6 +19,7 @@ use std::io::{self, BufReader, ErrorKind, Read, Write};
 use std::rt::Files;
 use std::str;
 use yexplain::reads::{Made, grammar_of};
+use yexplain::text::Escaped;
 use yinput::Parse;
 use yinput::source::Source;
 use yview::grammar_view::put_grammar;
@@ -33,11 +38,22 @@ pub struct Setting {
     pub columns: Option<usize>,
 }
 
+/// What a session begins with.
+#[derive(Clone, Copy)]
+pub struct Beginning<'a> {
+    /// The commands of a script.
+    pub script: &'a [u8],
+    /// The path of a journal: the session goes on where that says, and keeps it.
+    pub journal: Option<&'a str>,
+}
+
 /// Whether a session goes on.
 #[derive(Clone, Copy, PartialEq, Eq)]
 enum Flow {
     GoesOn,
     Quits,
+    /// The lines have come to their end.
+    Ends,
 }
 
 /// A session with a person.
@@ -48,6 +64,11 @@ struct Desk<'a, F, W> {
     parse: Parse,
     page: Page<W>,
     last: Option<Move>,
+    breaks: Breaks,
+    /// The path of its journal.
+    journal: Option<String>,
+    /// Whether an edit was made that no file has.
+    unsaved: bool,
 }
 
 impl<F: Files + AllocGlobal, W: Write> Desk<'_, F, W> {
@@ -64,7 +85,14 @@ impl<F: Files + AllocGlobal, W: Write> Desk<'_, F, W> {
     fn go(&mut self, wanted: Move) -> Made<()> {
         let (alloc, progress) = (self.source.rt.alloc(), self.setting.terminal);
         self.last = Some(wanted);
-        make_move(alloc, &mut self.parse, &mut self.page, wanted, progress)
+        make_move(
+            alloc,
+            &mut self.parse,
+            &mut self.page,
+            wanted,
+            &self.breaks,
+            progress,
+        )
     }
 
     /// Makes the move that a command means.
@@ -88,17 +116,60 @@ impl<F: Files + AllocGlobal, W: Write> Desk<'_, F, W> {
         let wants_word = verb != Verb::Drop;
         match verb {
             _ if wants_word == text.is_empty() => put_refusal(page, misused(verb)),
-            Verb::Insert => return insert(alloc, &mut self.parse, page, text),
+            Verb::Insert => {
+                self.unsaved = true;
+                return insert(alloc, &mut self.parse, page, text);
+            }
             Verb::Drop => {
+                self.unsaved = true;
                 let made = self.parse.session.drop_next();
                 put_edit(page, &self.parse, made);
             }
             verb => {
                 let over = verb == Verb::SaveOver;
-                save(self.source, &self.parse, page, text, over);
+                if save(self.source, &self.parse, page, text, over) {
+                    self.unsaved = false;
+                }
             }
         }
         Ok(())
+    }
+
+    /// Sets a breakpoint.
+    fn set_break(&mut self, text: &str) -> Made<()> {
+        let alloc = self.source.rt.alloc();
+        let condition = condition_of(&self.parse.session, self.parse.tokens, text);
+        match condition {
+            _ if text.is_empty() => put_refusal(&mut self.page, misused(Verb::Break)),
+            Ok(condition) => {
+                let (session, page) = (&self.parse.session, &mut self.page);
+                return self.breaks.set(alloc, page, session, (text, condition));
+            }
+            Err(Refusal::NoNumber) => put_refusal(&mut self.page, misused(Verb::Break)),
+            Err(refusal) => {
+                let name = condition_at_fault(text, refusal);
+                return self.view().refuse_name(name, refusal);
+            }
+        }
+        Ok(())
+    }
+
+    /// Deletes breakpoints.
+    fn delete(&mut self, text: &str) {
+        match number_in(text, "breakpoints", 1, LAST) {
+            _ if text.is_empty() => self.breaks.clear(&mut self.page),
+            Ok(number) => self.breaks.delete(&mut self.page, number),
+            Err(_) => put_refusal(&mut self.page, misused(Verb::Delete)),
+        }
+    }
+
+    /// Shows lines of the text.
+    fn list(&mut self, text: &str) {
+        match list(&mut self.page, &self.parse, text) {
+            Ok(()) => {}
+            Err(Refusal::NoNumber) => put_refusal(&mut self.page, misused(Verb::List)),
+            Err(refusal) => put_refusal(&mut self.page, refusal),
+        }
     }
 
     /// Shows what needs no arguments of the command.
@@ -114,12 +185,16 @@ impl<F: Files + AllocGlobal, W: Write> Desk<'_, F, W> {
             Verb::Expected => return self.view().show_expected(),
             Verb::Grammar => put_grammar(page, parse.session.tables(), &parse.lines),
             Verb::Conflicts => return self.view().show_conflicts(),
+            Verb::Breaks => self.breaks.put(page, &parse.session),
+            Verb::Errors => put_errors(page, parse),
             // These are answered before. Each stands here, so that a new command has its answer
             // or doesn't compile.
             Verb::Step | Verb::Back | Verb::To | Verb::Run | Verb::Quit | Verb::Reload => {}
             Verb::Insert | Verb::Drop | Verb::Save | Verb::SaveOver => {}
             Verb::State | Verb::Why | Verb::Rule | Verb::Symbol => {}
             Verb::Tree | Verb::Derivation | Verb::History | Verb::Help => {}
+            Verb::Continue | Verb::Next | Verb::Finish => {}
+            Verb::Break | Verb::Delete | Verb::List => {}
         }
         Ok(())
     }
@@ -134,6 +209,9 @@ impl<F: Files + AllocGlobal, W: Write> Desk<'_, F, W> {
             Verb::Tree => return self.view().show_tree(text),
             Verb::Derivation => return self.view().show_derivation(text),
             Verb::History => self.view().show_history(text),
+            Verb::List => self.list(text),
+            Verb::Break => return self.set_break(text),
+            Verb::Delete => self.delete(text),
             Verb::Help => return show_help(self.source.rt.alloc(), &mut self.page, text),
             verb if text.is_empty() => return self.look(verb),
             verb => put_refusal(&mut self.page, misused(verb)),
@@ -146,10 +224,12 @@ impl<F: Files + AllocGlobal, W: Write> Desk<'_, F, W> {
         match verb {
             Verb::Quit if text.is_empty() => return Ok(Flow::Quits),
             Verb::Step | Verb::Back | Verb::To | Verb::Run => self.travel(verb, text)?,
+            Verb::Continue | Verb::Next | Verb::Finish => self.travel(verb, text)?,
             Verb::Insert | Verb::Drop | Verb::Save | Verb::SaveOver => self.edit(verb, text)?,
             Verb::Reload if text.is_empty() => {
                 self.last = None;
                 reload(&mut self.page, &mut self.parse, self.source)?;
+                self.breaks.renew(&mut self.page, &self.parse);
             }
             verb => self.show(verb, text)?,
         }
@@ -175,7 +255,8 @@ impl<F: Files + AllocGlobal, W: Write> Desk<'_, F, W> {
     /// Answers a line, also where there is no memory for what it asks.
     fn serve(&mut self, line: &[u8]) -> io::Result<Flow> {
         let Ok(line) = str::from_utf8(line) else {
-            self.page.line("That line is no text.");
+            self.page.show(Escaped(line));
+            self.page.line(" is no UTF-8 text.");
             return Ok(Flow::GoesOn);
         };
         match self.answer(line) {
@@ -190,8 +271,23 @@ impl<F: Files + AllocGlobal, W: Write> Desk<'_, F, W> {
         }
     }
 
+    /// The end of the lines. A person with edits that no file has is asked once.
+    fn end(&mut self) -> Flow {
+        let asks = self.setting.terminal && self.unsaved && has_edits(&self.parse.session);
+        if !asks {
+            return Flow::Ends;
+        }
+        self.unsaved = false;
+        self.page.line("The edits are in no file: save FILE writes the tokens, quit ends.");
+        Flow::GoesOn
+    }
+
     /// Asks for a line where a person sits at a terminal, reads it and answers it.
     fn turn<R: Read>(&mut self, reader: &mut BufReader<R>, line: &mut Vec<u8>) -> io::Result<Flow> {
+        if let Some(path) = &self.journal {
+            // The session goes on without it.
+            let _ = keep(self.source.rt, path, &self.parse, &self.breaks);
+        }
         if self.setting.terminal {
             self.page.painted(Paint::Strong, "(ydebug) ");
         }
@@ -205,7 +301,7 @@ impl<F: Files + AllocGlobal, W: Write> Desk<'_, F, W> {
                 if self.setting.terminal {
                     self.page.end();
                 }
-                Ok(Flow::Quits)
+                Ok(self.end())
             }
             Came::Long => {
                 self.page.line("That line is too long.");
@@ -215,10 +311,15 @@ impl<F: Files + AllocGlobal, W: Write> Desk<'_, F, W> {
         }
     }
 
-    /// Greets a person at a terminal.
-    fn greet(&mut self) {
+    /// Greets a person at a terminal: with where the session is, if it goes on.
+    fn greet(&mut self, goes_on: bool) {
         if !self.setting.terminal {
             return;
+        }
+        if goes_on {
+            self.page.end();
+            put_where(&mut self.page, &self.parse.session, self.parse.tokens);
+            return put_ahead(&mut self.page, &self.parse);
         }
         let (tables, page) = (self.parse.session.tables(), &mut self.page);
         let counts = tables.conflicts();
@@ -231,32 +332,63 @@ impl<F: Files + AllocGlobal, W: Write> Desk<'_, F, W> {
     }
 }
 
-/// A session over a parse: command lines from the reader, what they show to the writer, up to
-/// `quit` or the end of the input.
+impl<F: Files + AllocGlobal, W: Write> Desk<'_, F, W> {
+    /// Answers the lines of a reader, up to `quit` or their end.
+    fn answer_all<R: Read + Drop>(&mut self, reader: R) -> io::Result<Flow> {
+        let alloc = self.source.rt.alloc();
+        let mut line = Vec::with_capacity(alloc, LONGEST)?;
+        let mut reader = BufReader::new(alloc, reader)?;
+        for _ in 0..u64::MAX {
+            let flow = self.turn(&mut reader, &mut line)?;
+            if flow != Flow::GoesOn {
+                return Ok(flow);
+            }
+        }
+        Ok(Flow::Ends)
+    }
+
+    /// Answers the lines of a script, without asking for them.
+    fn follow(&mut self, script: &[u8]) -> io::Result<Flow> {
+        let terminal = self.setting.terminal;
+        self.setting.terminal = false;
+        let flow = self.answer_all(script)?;
+        self.setting.terminal = terminal;
+        Ok(flow)
+    }
+}
+
+/// A session over a parse: command lines of a script, and then from the reader, what they show to
+/// the writer, up to `quit` or the end of the input.
 ///
 /// An error is that of the reader or of the writer, or memory ran out before the first line.
 pub fn debug<F: Files + AllocGlobal, R: Read + Drop, W: Write + Drop>(
     source: &Source<'_, F>,
     setting: Setting,
     parse: Parse,
+    beginning: Beginning<'_>,
     reader: R,
     writer: W,
 ) -> io::Result<()> {
+    let alloc = source.rt.alloc();
+    let (mut parse, mut breaks) = (parse, Breaks::new(alloc));
+    let (mut journal, mut goes_on) = (None, false);
+    if let Some(path) = beginning.journal {
+        goes_on = resume(source.rt, path, &mut parse, &mut breaks)?;
+        journal = Some(String::from_str(alloc, path)?);
+    }
     let mut desk = Desk {
         source,
         setting,
         parse,
         page: Page::new(writer, setting.colour),
         last: None,
+        breaks,
+        journal,
+        unsaved: goes_on,
     };
-    let alloc = source.rt.alloc();
-    let mut line = Vec::with_capacity(alloc, LONGEST)?;
-    let mut reader = BufReader::new(alloc, reader)?;
-    desk.greet();
-    for _ in 0..u64::MAX {
-        if desk.turn(&mut reader, &mut line)? == Flow::Quits {
-            break;
-        }
+    desk.greet(goes_on);
+    if desk.follow(beginning.script)? != Flow::Quits {
+        let _ = desk.answer_all(reader)?;
     }
     desk.page.flush()
 }

@@ -23,20 +23,60 @@ pub fn put_edit<W: Write>(page: &mut Page<W>, parse: &Parse, made: Result<StepKi
     }
 }
 
-/// Puts a token before the upcoming ones.
+/// The names of the tokens that a text spells: one with a blank in it, or several with blanks
+/// between.
+fn names_in<'t>(alloc: Global, parse: &Parse, text: &'t str) -> Made<Vec<&'t str>> {
+    let mut names = Vec::new(alloc);
+    if parse.session.token(text.as_bytes()).is_some() {
+        names.push(text)?;
+        return Ok(names);
+    }
+    for name in text.split_whitespace() {
+        names.push(name)?;
+    }
+    Ok(names)
+}
+
+/// Undoes so many inserts, and writes that.
+fn take_back<W: Write>(page: &mut Page<W>, parse: &mut Parse, made: usize) {
+    for _ in 0..made {
+        if let Ok(kind) = parse.session.back() {
+            put_made(
+                page,
+                &parse.session,
+                StepLine::of(&parse.session, kind, true),
+            );
+        }
+    }
+}
+
+/// Puts tokens before the upcoming ones, the first of them first: all of them, or none.
 pub fn insert<W: Write>(
     alloc: Global,
     parse: &mut Parse,
     page: &mut Page<W>,
-    name: &str,
+    text: &str,
 ) -> Made<()> {
-    match parse.insert(name.as_bytes()) {
-        Ok(Some(kind)) => put_edit(page, parse, Ok(kind)),
-        Ok(None) => {
+    let names = names_in(alloc, parse, text)?;
+    for name in &names {
+        if parse.session.token(name.as_bytes()).is_none() {
             let parse = &*parse;
             return View { alloc, parse, page }.refuse_name(name, Refusal::NoInput);
         }
-        Err(fault) => put_edit(page, parse, Err(fault)),
+    }
+    let mut made = 0_usize;
+    // the last one goes in first, so that the first one stands before it
+    for name in names.iter().rev() {
+        match parse.insert(name.as_bytes()) {
+            Ok(Some(kind)) => put_edit(page, parse, Ok(kind)),
+            Ok(None) => continue,
+            Err(fault) => {
+                put_edit(page, parse, Err(fault));
+                take_back(page, parse, made);
+                break;
+            }
+        }
+        made = made.saturating_add(1);
     }
     Ok(())
 }
@@ -60,21 +100,23 @@ fn save_tokens<F: Files + AllocGlobal>(
 }
 
 /// Writes the whole input with its edits to a file that isn't guarded, and says so, or why not.
+/// Whether that was done.
 pub fn save<F: Files + AllocGlobal, W: Write>(
     source: &Source<'_, F>,
     parse: &Parse,
     page: &mut Page<W>,
     path: &str,
     over: bool,
-) {
+) -> bool {
     let saved = match source.guards(path) {
         Ok(true) => {
             let _ = writeln!(page, "{path} is an input, and isn't written over.");
-            return;
+            return false;
         }
         Ok(false) => save_tokens(source.rt, parse, path, over),
         Err(error) => Err(error),
     };
+    let is_saved = saved.is_ok();
     let words = match saved {
         Ok(()) => " has the tokens, edits included.",
         Err(error) => match error.kind() {
@@ -84,4 +126,5 @@ pub fn save<F: Files + AllocGlobal, W: Write>(
         },
     };
     let _ = writeln!(page, "{path}{words}");
+    is_saved
 }

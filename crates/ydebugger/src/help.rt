@@ -1,11 +1,11 @@
 //! The command that a word means, and help on commands.
 
 use crate::verb::{VERBS, Verb};
-use crate::words::{Found, begins, find, near_in};
+use crate::words::{Found, begins, find, find_whole, near_in};
 use std::alloc::Global;
+use std::fmt;
 use std::io::Write;
 use yexplain::reads::Made;
-use yexplain::text::Escaped;
 use yview::{Page, Paint};
 
 /// The command that a word means.
@@ -15,9 +15,41 @@ pub fn verb_of(word: &str) -> Found<Verb> {
         "b" => Found::One(Verb::Back),
         "r" => Found::One(Verb::Run),
         "w" => Found::One(Verb::Where),
+        "e" => Found::One(Verb::Expected),
+        "c" => Found::One(Verb::Continue),
+        "n" => Found::One(Verb::Next),
+        "l" => Found::One(Verb::List),
+        "bt" | "backtrace" => Found::One(Verb::Stack),
         _ => find(&VERBS, word),
     }
 }
+
+/// What debuggers of programs call something, and what does it here.
+const ELSEWHERE: [(&str, &str); 23] = [
+    ("advance", "run until"),
+    ("condition", "break"),
+    ("display", "where"),
+    ("down", "stack"),
+    ("exit", "quit"),
+    ("file", "reload"),
+    ("frame", "where"),
+    ("info", "breaks, stack, state, symbol or history"),
+    ("jump", "to, insert or drop"),
+    ("kill", "to 0"),
+    ("nexti", "step"),
+    ("print", "stack, tree, state or symbol"),
+    ("reverse-continue", "back until"),
+    ("reverse-next", "back until"),
+    ("reverse-step", "back"),
+    ("set", "insert or drop"),
+    ("start", "to 0"),
+    ("stepi", "step"),
+    ("tbreak", "run until"),
+    ("undo", "back"),
+    ("until", "run until"),
+    ("watch", "break"),
+    ("x", "stack or tree"),
+];
 
 /// The commands that begin so.
 pub fn put_candidates<W: Write>(page: &mut Page<W>, word: &str) {
@@ -31,15 +63,33 @@ pub fn put_candidates<W: Write>(page: &mut Page<W>, word: &str) {
     page.end();
 }
 
-/// That a word is no command, and which one is near it.
+/// A word as it was typed: control characters as escapes.
+#[derive(Clone, Copy)]
+struct Typed<'a>(&'a str);
+
+impl fmt::Display for Typed<'_> {
+    fn fmt<W: fmt::Write>(&self, f: &mut fmt::Formatter<W>) -> fmt::Result {
+        for c in self.0.chars() {
+            if c.is_control() {
+                write!(f, "\\x{:02x}", u32::from(c))?;
+            } else {
+                f.write_char(c)?;
+            }
+        }
+        Ok(())
+    }
+}
+
+/// That a word is no command, and which one does that, or is near it.
 pub fn put_unknown<W: Write>(alloc: Global, page: &mut Page<W>, word: &str) -> Made<()> {
     let near = near_in(alloc, &VERBS, word)?;
     page.paint(Paint::Bad);
-    page.show(Escaped(word.as_bytes()));
+    page.show(Typed(word));
     page.paint(Paint::Plain);
-    let _ = match near {
-        Some(best) => writeln!(page, " is no command; did you mean {best}?"),
-        None => writeln!(page, " is no command; help lists them."),
+    let _ = match (find_whole(&ELSEWHERE, word), near) {
+        (Some(ours), _) => writeln!(page, " is no command; here it is {ours}."),
+        (None, Some(best)) => writeln!(page, " is no command; did you mean {best}?"),
+        (None, None) => writeln!(page, " is no command; help lists them."),
     };
     Ok(())
 }
@@ -61,7 +111,10 @@ pub fn show_help<W: Write>(alloc: Global, page: &mut Page<W>, text: &str) -> Mad
                 put_usage(page, *verb);
             }
             page.line("A beginning of a word is enough where no other word begins so;");
-            page.line("s, b, r and w are step, back, run and where.");
+            page.line(
+                "s, b, r and w are step, back, run and where; n, c, l and bt are next, continue,",
+            );
+            page.line("list and stack.");
             page.line("An empty line repeats the last move.");
         }
         Found::One(verb) => {

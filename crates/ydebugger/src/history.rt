@@ -5,6 +5,7 @@ use yexplain::reads::grammar_of;
 use yinput::Parse;
 use yparse::Session;
 use yparse::machine::StepKind;
+use ysymbols::Sym;
 use yview::page::Page;
 use yview::reading::{name_of, upcoming_token};
 use yview::step_line::{kind_word, put_rule_number, put_subject};
@@ -49,6 +50,51 @@ pub fn put_history<W: Write>(page: &mut Page<W>, parse: &Parse, most: usize) {
     for index in from..position {
         put_past(page, &parse.session, index);
     }
+}
+
+/// The token that was ahead after a step that stands: what came after it shifted, discarded or
+/// dropped it, or it is upcoming.
+fn ahead_after(session: &Session, index: usize) -> Sym {
+    let mut inserted = 0_usize;
+    for later in index.saturating_add(1)..session.position() {
+        match session.kind_at(later) {
+            Some(StepKind::Insert(_)) => inserted = inserted.saturating_add(1),
+            Some(StepKind::Shift(token) | StepKind::Discard(token) | StepKind::Drop(token)) => {
+                if inserted == 0 {
+                    return token;
+                }
+                inserted = inserted.saturating_sub(1);
+            }
+            _ => {}
+        }
+    }
+    upcoming_token(session, inserted).0
+}
+
+/// Where errors were detected: the position after each, and the token that couldn't come.
+pub fn put_errors<W: Write>(page: &mut Page<W>, parse: &Parse) {
+    let session = &parse.session;
+    if session.view().errors() == 0 {
+        page.line("No error was detected so far.");
+    }
+    for index in 0..session.position() {
+        if let Some(StepKind::Detect) = session.kind_at(index) {
+            let token = ahead_after(session, index);
+            page.number_to(7, index.saturating_add(1));
+            let name = name_of(grammar_of(session.tables()), token);
+            let _ = writeln!(page, "  {name} couldn't come");
+        }
+    }
+}
+
+/// Whether any edit stands.
+pub fn has_edits(session: &Session) -> bool {
+    (0..session.position()).any(|index| {
+        matches!(
+            session.kind_at(index),
+            Some(StepKind::Insert(_) | StepKind::Drop(_))
+        )
+    })
 }
 
 /// The whole input with its edits, in the form of a tokens file: the tokens that were read and

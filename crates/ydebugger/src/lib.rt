@@ -2,16 +2,19 @@
 //!
 //! `lines` reads a line, `words` finds a word in a table by a beginning of it and suggests another,
 //! `verb` has the commands, `help` their help, `condition` is what a run stops at, `travel` has
-//! moves, and `refusal` says why a line isn't followed. `moves` and `edits` change a parse, `views`,
-//! `text` and `history` show it, `reload` makes it anew from its files, and `desk` is the loop over
-//! command lines. What is done to a parse goes through the calls of `Session` alone.
+//! moves, `breaks` the conditions that are kept, and `refusal` says why a line isn't followed.
+//! `moves` and `edits` change a parse, `views`, `text` and `history` show it, `reload` makes it anew
+//! from its files, `journal` from the commands that led there, and `desk` is the loop over command
+//! lines. What is done to a parse goes through the calls of `Session` alone.
 #![tactic(auto)]
 
+mod breaks;
 mod condition;
 mod desk;
 mod edits;
 mod help;
 mod history;
+mod journal;
 mod lines;
 mod moves;
 mod refusal;
@@ -22,4 +25,4 @@ mod verb;
 mod views;
 pub mod words;
 
-pub use desk::{Setting, debug};
+pub use desk::{Beginning, Setting, debug};

@@ -1,13 +1,15 @@
 //! Moves: steps forward and back, and to where a condition holds.
 
+use crate::breaks::{Breaks, Hit};
 use crate::condition::Condition;
 use crate::refusal::fault_words;
 use crate::text::put_ahead;
-use crate::travel::{LAST, Move, tells_each, until_of};
+use crate::travel::{LAST, Move, heeds_breaks, is_wary, tells_each, until_of};
 use std::alloc::Global;
 use std::io::Write;
 use yexplain::reads::{Made, grammar_of};
 use yinput::Parse;
+use yparse::Session;
 use yparse::machine::{StepFault, StepKind};
 use yview::page::Page;
 use yview::reading::{name_of, token_ahead};
@@ -27,6 +29,10 @@ enum End {
     Done,
     /// The condition is met.
     Met,
+    /// A breakpoint is met.
+    Broken(Hit),
+    /// The next step detects an error.
+    Fault,
     /// No further step can be made.
     Refused(StepFault),
     /// Nothing stands that could be undone.
@@ -80,10 +86,41 @@ impl Telling {
 
 /// Where a move goes: forward or back, so many steps at most, or to where a condition is met.
 #[derive(Clone, Copy)]
-struct Course {
+struct Course<'a> {
     back: bool,
     most: usize,
     until: Option<Condition>,
+    /// How often the condition is to be met.
+    times: usize,
+    /// The breakpoints at which it stops.
+    breaks: Option<&'a Breaks>,
+    /// Whether it stops before an error is detected.
+    wary: bool,
+}
+
+impl Course<'_> {
+    /// Makes a step, or undoes one; why not, where that can't be.
+    fn make(self, session: &mut Session) -> Result<StepKind, End> {
+        if self.back {
+            return session.back().map_err(|_| End::AtStart);
+        }
+        session.step().map_err(End::Refused)
+    }
+
+    /// How it ends after a step or an undo of this kind, where it does. `left` is how often the
+    /// condition is still to be met.
+    fn end_after(self, session: &Session, kind: StepKind, left: &mut usize) -> Option<End> {
+        if let Some(until) = self.until {
+            if until.is_met(session, kind) {
+                *left = left.saturating_sub(1);
+            }
+            if *left == 0 {
+                return Some(End::Met);
+            }
+        }
+        let hit = self.breaks?.met(session, kind)?;
+        Some(End::Broken(hit))
+    }
 }
 
 /// Makes the steps of a course, or undoes them, up to a fault of the page.
@@ -91,25 +128,22 @@ fn go<W: Write>(
     parse: &mut Parse,
     page: &mut Page<W>,
     telling: &mut Telling,
-    course: Course,
+    course: Course<'_>,
 ) -> End {
+    let mut left = course.times;
     for _ in 0..course.most {
-        let kind = if course.back {
-            match parse.session.back() {
-                Ok(kind) => kind,
-                Err(_) => return End::AtStart,
-            }
-        } else {
-            match parse.session.step() {
-                Ok(kind) => kind,
-                Err(fault) => return End::Refused(fault),
-            }
+        let kind = match course.make(&mut parse.session) {
+            Ok(kind) => kind,
+            Err(end) => return end,
         };
+        // it can be mended where it isn't detected yet
+        if course.wary && telling.made > 0 && matches!(kind, StepKind::Detect) {
+            let _ = parse.session.back();
+            return End::Fault;
+        }
         telling.tell(page, parse, kind, course.back);
-        if let Some(until) = course.until {
-            if until.is_met(&parse.session, kind) {
-                return End::Met;
-            }
+        if let Some(end) = course.end_after(&parse.session, kind, &mut left) {
+            return end;
         }
         if page.checked().is_err() {
             break;
@@ -121,6 +155,8 @@ fn go<W: Write>(
 /// Whether the condition of a move was met.
 fn put_until<W: Write>(page: &mut Page<W>, parse: &Parse, until: Condition, end: End) {
     match (end, until) {
+        // how many tokens were shifted is plain from the steps
+        (_, Condition::AnyShift) | (End::Broken(_), _) => return,
         (End::Met, Condition::Conflict) => {
             let session = &parse.session;
             let (state, token) = (session.state(), token_ahead(session));
@@ -141,11 +177,27 @@ fn put_until<W: Write>(page: &mut Page<W>, parse: &Parse, until: Condition, end:
 }
 
 /// How a move ended, where that isn't plain from its steps.
-fn put_end<W: Write>(page: &mut Page<W>, parse: &Parse, wanted: Move, end: End, made: usize) {
-    if let Some(until) = until_of(wanted) {
+fn put_end<W: Write>(
+    page: &mut Page<W>,
+    parse: &Parse,
+    (wanted, until): (Move, Option<Condition>),
+    end: End,
+    made: usize,
+) {
+    if let Some(until) = until {
         put_until(page, parse, until, end);
     }
     match end {
+        End::Broken(hit) => {
+            let _ = write!(page, "stopped: breakpoint {}, ", hit.number);
+            hit.condition.put(page, &parse.session);
+            page.end();
+        }
+        End::Fault => {
+            let session = &parse.session;
+            let name = name_of(grammar_of(session.tables()), token_ahead(session));
+            let _ = writeln!(page, "stopped: an error comes next, {name} can't come here");
+        }
         End::Refused(StepFault::Halted) if made > 0 && !matches!(wanted, Move::To(_)) => {}
         End::Refused(fault) => page.line(fault_words(fault, parse.session.view().mode())),
         End::AtStart if made > 0 => {}
@@ -155,12 +207,43 @@ fn put_end<W: Write>(page: &mut Page<W>, parse: &Parse, wanted: Move, end: End, 
     }
 }
 
-/// Makes a move, and tells it. A long one tells its position on the way where `progress` is set.
+/// The course of a move from a position.
+fn course_of<'a>(
+    position: usize,
+    wanted: Move,
+    until: Option<Condition>,
+    breaks: &'a Breaks,
+) -> Course<'a> {
+    let (back, most) = match wanted {
+        Move::Step(count) | Move::RunFor(count) => (false, count),
+        Move::Back(count) => (true, count),
+        Move::To(to) if position < to => (false, to.saturating_sub(position)),
+        Move::To(to) => (true, position.saturating_sub(to)),
+        Move::Run | Move::RunUntil(_) | Move::Next(_) | Move::Finish => (false, FARTHEST),
+        Move::BackUntil(_) => (true, FARTHEST),
+    };
+    Course {
+        back,
+        most,
+        until,
+        times: if let Move::Next(times) = wanted {
+            times
+        } else {
+            1
+        },
+        breaks: heeds_breaks(wanted).then_some(breaks),
+        wary: is_wary(wanted),
+    }
+}
+
+/// Makes a move, and tells it. A run stops at breakpoints. A long one tells its position on the way
+/// where `progress` is set.
 pub fn make_move<W: Write>(
     alloc: Global,
     parse: &mut Parse,
     page: &mut Page<W>,
     wanted: Move,
+    breaks: &Breaks,
     progress: bool,
 ) -> Made<()> {
     let mut telling = Telling {
@@ -169,18 +252,11 @@ pub fn make_move<W: Write>(
         made: 0,
         tail: Vec::with_capacity(alloc, KEPT)?,
     };
-    let (position, until) = (parse.session.position(), until_of(wanted));
-    let (back, most) = match wanted {
-        Move::Step(count) => (false, count),
-        Move::Back(count) => (true, count),
-        Move::To(to) if position < to => (false, to.saturating_sub(position)),
-        Move::To(to) => (true, position.saturating_sub(to)),
-        Move::Run | Move::RunUntil(_) => (false, FARTHEST),
-        Move::BackUntil(_) => (true, FARTHEST),
-    };
-    let end = go(parse, page, &mut telling, Course { back, most, until });
+    let until = until_of(&parse.session, wanted);
+    let course = course_of(parse.session.position(), wanted, until, breaks);
+    let end = go(parse, page, &mut telling, course);
     telling.finish(page, parse);
-    put_end(page, parse, wanted, end, telling.made);
+    put_end(page, parse, (wanted, until), end, telling.made);
     if !tells_each(wanted) {
         put_ahead(page, parse);
     }

@@ -34,6 +34,8 @@ pub enum Refusal {
     Alone,
     /// A condition needs a name or a number.
     Unfinished,
+    /// The stack is empty.
+    Empty,
     /// Memory ran out.
     Memory,
 }
@@ -87,6 +89,7 @@ pub fn put_refusal<W: Write>(page: &mut Page<W>, refusal: Refusal) {
         Refusal::ManyConditions => "Several conditions begin so; help run lists them.",
         Refusal::Alone => "That condition is a word alone; help run lists them.",
         Refusal::Unfinished => "That condition needs a name or a number; help run lists them.",
+        Refusal::Empty => "The stack is empty: there is nothing to finish.",
         Refusal::Memory => "There is no memory for that; the parse is as it was.",
     });
     page.paint(Paint::Plain);

@@ -1,12 +1,26 @@
 //! What is shown of the text that tokens were read from.
 
+use crate::condition::number_in;
+use crate::refusal::Refusal;
 use std::io::Write;
-use yexplain::lines::Spots;
+use yexplain::lines::{Spots, newlines};
 use yexplain::reads::grammar_of;
+use yfiles::place::Place;
 use yinput::Parse;
+use yinput::text::Text;
 use yview::page::Page;
 use yview::place_view::{MANY, put_more};
 use yview::reading::{name_of, upcoming_token};
+
+/// How many lines are listed before the middle one, and after it.
+const AROUND: usize = 5;
+
+/// The place of the first upcoming token that wasn't inserted.
+fn place_ahead<'a>(parse: &Parse, text: &'a Text) -> Place<'a> {
+    let session = &parse.session;
+    let mut numbers = (0..session.view().rest_len()).map(|at| upcoming_token(session, at).1);
+    text.place(numbers.find(|number| *number > 0).unwrap_or(0))
+}
 
 /// The line of the first upcoming token that wasn't inserted, with a mark under it, where the
 /// tokens were read from a text.
@@ -14,9 +28,7 @@ pub fn put_ahead<W: Write>(page: &mut Page<W>, parse: &Parse) {
     let Some(text) = &parse.text else {
         return;
     };
-    let session = &parse.session;
-    let mut numbers = (0..session.view().rest_len()).map(|at| upcoming_token(session, at).1);
-    let place = text.place(numbers.find(|number| *number > 0).unwrap_or(0));
+    let place = place_ahead(parse, text);
     let (path, spot) = (place.path, place.spot());
     let _ = writeln!(page, "{path}:{spot}");
     // The page remembers a fault.
@@ -57,4 +69,54 @@ pub fn put_upcoming<W: Write>(page: &mut Page<W>, parse: &Parse) {
         put_token(page, parse, &mut spots, index);
     }
     put_more(page, count.saturating_sub(MANY), " tokens after");
+}
+
+/// The lines of a text around a middle one, each with its number, and a sign before the line of the
+/// token ahead.
+fn put_around<W: Write>(page: &mut Page<W>, text: &Text, ahead: usize, middle: usize) {
+    let (from, to) = (middle.saturating_sub(AROUND), middle.saturating_add(AROUND));
+    let (mut number, mut at) = (0_usize, 0_usize);
+    for line in text.bytes.split(|b| *b == b'\n') {
+        number = number.saturating_add(1);
+        if number > to || at >= text.bytes.len() {
+            break;
+        }
+        if number >= from {
+            page.put(if number == ahead { " >" } else { "" });
+            page.number_to(7, number);
+            let source = text.bytes.as_slice();
+            // The page remembers a fault.
+            let _ = Place {
+                path: "",
+                source,
+                at,
+            }
+            .put_text(page, false);
+            if line.is_empty() {
+                page.end();
+            }
+        }
+        at = at.saturating_add(line.len()).saturating_add(1);
+    }
+}
+
+/// The lines of the text around the token ahead, or around the line of a number.
+pub fn list<W: Write>(page: &mut Page<W>, parse: &Parse, words: &str) -> Result<(), Refusal> {
+    let Some(text) = &parse.text else {
+        page.line("There is no text: the tokens were read as such; upcoming lists them.");
+        return Ok(());
+    };
+    let ahead = place_ahead(parse, text).spot().line;
+    let newlines = newlines(&text.bytes);
+    let lines = match text.bytes.last() {
+        Some(b'\n') => newlines,
+        _ => newlines.saturating_add(1),
+    };
+    let middle = if words.is_empty() {
+        ahead
+    } else {
+        number_in(words, "lines", 1, lines)?
+    };
+    put_around(page, text, ahead, middle);
+    Ok(())
 }

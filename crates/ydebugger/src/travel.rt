@@ -18,8 +18,14 @@ pub enum Move {
     Back(usize),
     /// To a position.
     To(usize),
-    /// To the end.
+    /// To the end, or to where an error comes next.
     Run,
+    /// So many steps forward at most, as `Run`.
+    RunFor(usize),
+    /// Forward to where so many tokens are shifted.
+    Next(usize),
+    /// Forward to the reduction of the entry on top.
+    Finish,
     /// Forward to where a condition holds.
     RunUntil(Condition),
     /// Back to where a condition holds.
@@ -40,13 +46,18 @@ fn until_in(text: &str) -> Option<&str> {
     (!word.is_empty() && "until".starts_with(word)).then_some(condition)
 }
 
-/// The word for which a condition was refused: its first one, or the name after that.
-pub fn name_at_fault(text: &str, refusal: Refusal) -> &str {
-    let (word, name) = first_word(until_in(text).unwrap_or(""));
+/// The word of a condition for which it was refused: its first one, or the name after that.
+pub fn condition_at_fault(condition: &str, refusal: Refusal) -> &str {
+    let (word, name) = first_word(condition);
     match refusal {
         Refusal::NoCondition => word,
         _ => name,
     }
+}
+
+/// The word of a move for which its condition was refused.
+pub fn name_at_fault(text: &str, refusal: Refusal) -> &str {
+    condition_at_fault(until_in(text).unwrap_or(""), refusal)
 }
 
 /// The move that a command and its arguments mean.
@@ -57,18 +68,37 @@ pub fn move_of(session: &Session, tokens: usize, verb: Verb, text: &str) -> Resu
         (Verb::Back, Some(condition)) => until(condition).map(Move::BackUntil),
         (Verb::Back, None) => count_of(text).map(Move::Back),
         (Verb::To, _) => number_in(text, "positions", 0, LAST).map(Move::To),
-        (Verb::Run, None) if text.is_empty() => Ok(Move::Run),
-        (Verb::Run, None) => Err(misused(verb)),
+        (Verb::Run | Verb::Continue, None) if text.is_empty() => Ok(Move::Run),
+        (Verb::Run, None) => number_in(text, "counts", 1, LAST).map(Move::RunFor),
+        (Verb::Next, _) => count_of(text).map(Move::Next),
+        (Verb::Finish, _) if session.view().stack_len() == 0 => Err(Refusal::Empty),
+        (Verb::Finish, _) if text.is_empty() => Ok(Move::Finish),
+        (Verb::Finish | Verb::Continue, _) => Err(misused(verb)),
         _ => count_of(text).map(Move::Step),
     }
 }
 
-/// The condition of a move.
-pub fn until_of(wanted: Move) -> Option<Condition> {
+/// The condition of a move from where a session stands.
+pub fn until_of(session: &Session, wanted: Move) -> Option<Condition> {
     match wanted {
         Move::RunUntil(condition) | Move::BackUntil(condition) => Some(condition),
+        Move::Next(_) => Some(Condition::AnyShift),
+        Move::Finish => Some(Condition::Top(session.view().stack_len())),
         _ => None,
     }
+}
+
+/// Whether a move stops before an error is detected, where it made a step before that.
+pub fn is_wary(wanted: Move) -> bool {
+    matches!(
+        wanted,
+        Move::Run | Move::RunFor(_) | Move::Next(_) | Move::Finish
+    )
+}
+
+/// Whether a move stops at breakpoints.
+pub fn heeds_breaks(wanted: Move) -> bool {
+    !matches!(wanted, Move::Step(_) | Move::Back(_) | Move::To(_))
 }
 
 /// Whether each step of a move is written.

@@ -7,9 +7,16 @@ pub enum Verb {
     Back,
     To,
     Run,
+    Continue,
+    Next,
+    Finish,
+    Break,
+    Breaks,
+    Delete,
     Where,
     Stack,
     Upcoming,
+    List,
     State,
     Expected,
     Why,
@@ -19,6 +26,7 @@ pub enum Verb {
     Tree,
     Derivation,
     History,
+    Errors,
     Insert,
     Drop,
     Save,
@@ -30,14 +38,21 @@ pub enum Verb {
 }
 
 /// Each command by its word, in the order in which help lists them.
-pub const VERBS: [(&str, Verb); 24] = [
+pub const VERBS: [(&str, Verb); 32] = [
     ("step", Verb::Step),
     ("back", Verb::Back),
     ("to", Verb::To),
     ("run", Verb::Run),
+    ("continue", Verb::Continue),
+    ("next", Verb::Next),
+    ("finish", Verb::Finish),
+    ("break", Verb::Break),
+    ("breaks", Verb::Breaks),
+    ("delete", Verb::Delete),
     ("where", Verb::Where),
     ("stack", Verb::Stack),
     ("upcoming", Verb::Upcoming),
+    ("list", Verb::List),
     ("state", Verb::State),
     ("expected", Verb::Expected),
     ("why", Verb::Why),
@@ -47,6 +62,7 @@ pub const VERBS: [(&str, Verb); 24] = [
     ("tree", Verb::Tree),
     ("derivation", Verb::Derivation),
     ("history", Verb::History),
+    ("errors", Verb::Errors),
     ("insert", Verb::Insert),
     ("drop", Verb::Drop),
     ("save", Verb::Save),
@@ -64,10 +80,17 @@ impl Verb {
             Verb::Step => "step [N]: one step forward, or N",
             Verb::Back => "back [N] | back until C: one step back, or N, or to where C holds",
             Verb::To => "to K: to position K, forward or back",
-            Verb::Run => "run | run until C: to the end, or to where C holds",
+            Verb::Run => "run [N] | run until C: to the end, N steps at most, or to where C holds",
+            Verb::Continue => "continue: to the next breakpoint, error or end, as run does",
+            Verb::Next => "next [N]: to where a token is shifted, or N are",
+            Verb::Finish => "finish: to the reduction of the entry on top of the stack",
+            Verb::Break => "break C: every run stops where C holds",
+            Verb::Breaks => "breaks: the breakpoints, by their numbers",
+            Verb::Delete => "delete [N]: deletes breakpoint N, or all",
             Verb::Where => "where: the position, the stack, the upcoming tokens, the state",
             Verb::Stack => "stack: every entry of the stack, with its state",
             Verb::Upcoming => "upcoming: the upcoming tokens, with their places",
+            Verb::List => "list [N]: the text around the token ahead, or around line N",
             Verb::State => "state [N]: a state: its items, actions and gotos",
             Verb::Expected => "expected: the tokens that can come here",
             Verb::Why =>
@@ -79,7 +102,8 @@ impl Verb {
             Verb::Derivation =>
                 "derivation [N | all]: the rightmost derivation up to here, the last form first",
             Verb::History => "history [N]: the last steps and edits, or the last N",
-            Verb::Insert => "insert T: puts the token T before the upcoming ones",
+            Verb::Errors => "errors: where errors were detected so far",
+            Verb::Insert => "insert T ..: puts tokens before the upcoming ones",
             Verb::Drop => "drop: removes the first upcoming token",
             Verb::Save => "save FILE: writes the tokens, edits included, to a new file",
             Verb::SaveOver => "save! FILE: writes the tokens, edits included, over a file",
@@ -96,8 +120,10 @@ impl Verb {
     pub fn more(self) -> &'static str {
         match self {
             Verb::Step | Verb::To => "An empty line repeats the last move.",
-            Verb::Run | Verb::Back => UNTIL,
-            Verb::Insert => "T is spelled as in a tokens file: NAME, or a literal such as '+'.",
+            Verb::Run | Verb::Back | Verb::Break => UNTIL,
+            Verb::Continue | Verb::Next | Verb::Finish => STOPS,
+            Verb::Insert => "T is spelled as in a tokens file: NAME, or a literal such as '+'.\n\
+                The first one comes first. All are put in, or none.",
             Verb::Tree => "Entries are counted from 1 at the bottom, as stack shows them.\n\
                 1,000 lines are written unless all are asked for.",
             Verb::Derivation => "100 forms are written unless told otherwise.\n\
@@ -109,6 +135,11 @@ impl Verb {
         }
     }
 }
+
+/// Where a run stops by itself.
+const STOPS: &str = "It stops at a breakpoint, and where an error comes next: there the upcoming\n\
+    tokens can still be changed. From such a place it goes on.\n\
+    An empty line repeats the last move.";
 
 /// The conditions.
 const UNTIL: &str = "C is one of:\n\
@@ -122,4 +153,6 @@ const UNTIL: &str = "C is one of:\n\
     \x20 depth N          the stack has N entries\n\
     \x20 accept           the input is accepted\n\
     Back, a step is undone first: the parse stands before it.\n\
+    Where no C is said, run stops where an error comes next; a second run goes on.\n\
+    Runs stop at breakpoints, forward and back; step and to don't.\n\
     An empty line repeats the last move.";

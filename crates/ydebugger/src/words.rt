@@ -53,6 +53,16 @@ pub fn find<T: Copy>(table: &[(&'static str, T)], word: &str) -> Found<T> {
     found
 }
 
+/// The entry of a whole word.
+pub fn find_whole<T: Copy>(table: &[(&'static str, T)], word: &str) -> Option<T> {
+    for (name, entry) in table {
+        if *name == word {
+            return Some(*entry);
+        }
+    }
+    None
+}
+
 /// The word of a table that is nearest to this one, where one is near.
 pub fn near_in<'a, T: Copy>(
     alloc: Global,

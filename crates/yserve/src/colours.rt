@@ -24,14 +24,14 @@ impl Document {
     /// All of them: for each five numbers, which are the lines and the columns after the one
     /// before, the length, what it is, and nothing more.
     pub fn colours(&self, alloc: Global) -> Result<Value, AllocError> {
-        let (mut numbers, mut mentions) = (Vec::new(alloc), self.index.mentions.iter());
-        let (mut line, mut column, mut next) = (0usize, 0usize, mentions.next());
+        let mut numbers = Vec::new(alloc);
+        let (mut line, mut column, mut next) = (0usize, 0usize, 0usize);
         for lexeme in &self.index.lexemes {
             let mut name = None;
-            if let Some(mention) = next {
+            if let Some(mention) = self.index.mentions.get(next) {
                 if mention.span.from == lexeme.span.from {
                     name = Some(mention.name);
-                    next = mentions.next();
+                    next = next.saturating_add(1);
                 }
             }
             let Some(colour) = self.colour(lexeme, name) else {

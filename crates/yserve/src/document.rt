@@ -20,6 +20,15 @@ pub enum Encoding {
 }
 
 impl Encoding {
+    /// Its name in the protocol.
+    pub fn name(self) -> &'static str {
+        match self {
+            Encoding::Bytes => "utf-8",
+            Encoding::Units => "utf-16",
+            Encoding::Ones => "utf-32",
+        }
+    }
+
     /// What the character that begins with a byte counts; a byte within one counts nothing, but
     /// where bytes are counted.
     fn width(self, byte: u8) -> usize {

@@ -88,23 +88,20 @@ impl Server {
 
     /// Begins, with the first way of counting columns that the editor takes and this knows.
     fn begin(&mut self, message: &Value) -> Result<Value, AllocError> {
-        let mut name = "utf-16";
         if let Some(Value::Array(ways)) = message.pointer(
             "/params/capabilities/general/positionEncodings",
         ) {
             for way in ways.iter().rev() {
-                let known = match way.as_str() {
-                    Some("utf-8") => ("utf-8", Encoding::Bytes),
-                    Some("utf-16") => ("utf-16", Encoding::Units),
-                    Some("utf-32") => ("utf-32", Encoding::Ones),
-                    _ => continue,
-                };
-                name = known.0;
-                self.encoding = known.1;
+                match way.as_str() {
+                    Some("utf-8") => self.encoding = Encoding::Bytes,
+                    Some("utf-16") => self.encoding = Encoding::Units,
+                    Some("utf-32") => self.encoding = Encoding::Ones,
+                    _ => {}
+                }
             }
         }
         self.stage = Stage::Running;
-        capabilities_of(self.alloc, name)
+        capabilities_of(self.alloc, self.encoding.name())
     }
 
     /// Opens a file, also one that is open.
@@ -144,7 +141,8 @@ impl Server {
             "textDocument/didOpen" => self.open(message)?,
             "textDocument/didChange" => self.change(message)?,
             "textDocument/didClose" => {
-                if let Some(place) = self.place(message) {
+                let place = self.place(message).unwrap_or(usize::MAX);
+                if place < self.documents.len() {
                     return Ok(Some(self.documents.remove(place)));
                 }
             }
