@@ -36,6 +36,8 @@ IN_VAIN = re.compile(
 )
 REFUSED = re.compile(r"    The tables refuse it at (?:token (\d+)|its end)\.")
 INDENT, STEP = 4, 2
+# Whether it is told of all sentences that the tables refuse them, or maybe of some.
+ALL, MAYBE = "all", "maybe"
 # The most steps of a parse that is looked at.
 MOST_STEPS = 10_000
 ENDLESS = "endless"
@@ -241,7 +243,8 @@ class Told:
 
 def wrong_apart(grammar, told, counts, ends):
     """What is wrong with the sentences that are told of rivals. After one whose parse doesn't end, of
-    none is told that the tables refuse it, and `ends` is empty."""
+    none is told that the tables refuse it, and `ends` is empty; after one with two trees whose parse
+    doesn't, it may be told, and `ends` has no `ALL`."""
     names = grammar.names
     for rule, words, refused in told.apart:
         counts["sentences"] += 1
@@ -251,8 +254,8 @@ def wrong_apart(grammar, told, counts, ends):
         place = refused_by(grammar, tokens)
         if place == ENDLESS:
             ends.clear()
-        wanted = place if ends else None
-        if wrong or refused != wanted:
+        wanted = {place} if ALL in ends else {place, None} if ends else {None}
+        if wrong or refused not in wanted:
             return wrong or f"refused at {place}"
     return None
 
@@ -274,13 +277,15 @@ def wrong_told(grammar, told, counts, ends):
     if told.two:
         counts["sentences with two trees"] += 1
         tokens, _ = read_words(told.two, names)
+        if refused_by(grammar, tokens) == ENDLESS:
+            ends.discard(ALL)
         return wrong_two(grammar, tokens) or wrong_trees(grammar, told.drawn)
     return wrong_apart(grammar, told, counts, ends)
 
 
 def differences(grammar, text, counts):
     """What is wrong with the sentences of a report."""
-    ends = {"all"}
+    ends = {ALL, MAYBE}
     for part in text.split("\n\n")[1:]:
         lines = part.splitlines()
         if lines and HEAD.match(lines[0]):
