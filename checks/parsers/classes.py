@@ -138,6 +138,8 @@ def in_c(folder, grammar, ycc, options):
     """The parser in C; nothing where the grammar is refused."""
     file, parser, program = (f"{folder}/{it}" for it in ("c.y", "c.c", "c"))
     declared = b"static int yylex (void);\nstatic void yyerror (const char *what);\n%}\n"
+    # a directive of bison's, as in C++: what bison would do otherwise is refused in both
+    declared += b"%code {\n}\n"
     said = TAIL.replace(b"  static int steps;\n", b"  static int steps;\n" + KINDS)
     Path(file).write_bytes(FRONT + declared + bare(grammar) + b"\n%%\n" + said + IN_C)
     if running.ran([ycc, "--bison", "-k", *options, "-Wnone", "-o", parser, file]).returncode:
