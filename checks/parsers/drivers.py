@@ -40,9 +40,6 @@ sys.path.append(str(DRIVERS / "python"))
 from ydmessages import Messages, read_messages
 from ydriver import Fault, Kind, Parser, Result, digest_of, read_table
 
-# What `ydebug` calls the end and a newline, and where they stand in a text by their names.
-SPOKEN = {"$end": "end of input", "'\\012'": "end of line"}
-BARE = re.compile(r"(?<= )(?:\$end|'\\012')(?=[,; ]|$)")
 FEW = 200
 NAMED = {Kind.SHIFT, Kind.POP, Kind.DISCARD}
 OTHER = b"the names of its rules were made for another table\n"
@@ -142,18 +139,12 @@ def said_by(result):
     return result.partition(": ")[2]
 
 
-def spoken(text):
-    """What a driver says with the words that `ydebug` has for the end and for a newline: a table has
-    their names alone."""
-    return BARE.sub(lambda it: SPOKEN[it[0]], text)
-
-
 def compare_said(cases, answers_of, tally):
     """What each way to run a driver says of the first error against `ydebug`."""
     for name, answers in answers_of.items():
         for case, (_, result) in zip(cases, answers):
             if case.said is not None and not result.startswith("cut"):
-                wrong = spoken(said_by(result)) != case.said
+                wrong = said_by(result) != case.said
                 tally.take(name, [kept(case[:2], case.said, result)] if wrong else [])
 
 

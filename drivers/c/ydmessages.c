@@ -231,10 +231,16 @@ static const spelling *spelling_of(const yd_messages *messages, int symbol) {
   return (int)messages->spelled[low].symbol == symbol ? &messages->spelled[low] : NULL;
 }
 
+/* What people call a symbol without a spelling: by its name, but for the end and a newline. */
+static const char *plain_of(const char *name) {
+  if (!strcmp(name, "$end")) return "end of input";
+  return strcmp(name, "'\\012'") ? name : "end of line";
+}
+
 static void put_called(filling *to, int symbol) {
   const spelling *called = spelling_of(to->messages, symbol);
   if (called) put(to, called->text, called->length);
-  else put_word(to, yd_name(to->parser->table, symbol));
+  else put_word(to, plain_of(yd_name(to->parser->table, symbol)));
 }
 
 /* Writes a symbol: what stands in the input for it, or what it is called. */

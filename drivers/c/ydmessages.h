@@ -19,7 +19,7 @@ yd_messages *yd_read_messages(const char *text, size_t length, unsigned long dig
 void yd_free_messages(yd_messages *messages);
 
 /* What stands in the input for a token or an entry of the stack, with its length; NULL where it is to
-   stand by what the messages call it, as "<=", or else by its name. */
+   stand by what the messages call it, as "<=", or else by its name, the end as "end of input". */
 typedef const char *(*yd_show)(void *context, int symbol, yd_span span, size_t *length);
 
 /* A message, for the call of an error: writes it to a buffer of `size` bytes, cut if it is longer and

@@ -17,6 +17,9 @@ from ydriver import Fault, Parser
 SYMBOLS, STATES, LONGEST, MOST_NUMBER, MOST_NAMED = 4096, 16384, 16777216, 99, 20
 NUMBER = re.compile(rb"0|[1-9][0-9]{0,9}")
 
+# What people call the end and a newline, where no spelling of their own is there.
+PLAIN = {"$end": "end of input", "'\\012'": "end of line"}
+
 # Bytes; an entry of the stack, 0 for the token; None for the tokens that could come.
 Piece = Union[bytes, int, None]
 # What stands in the input for a symbol from its first to its last place; None for what it is called.
@@ -54,7 +57,8 @@ class _Filling:
 
     def called(self, symbol: int) -> str:
         """What a symbol is called."""
-        return self.spelled.get(symbol, self.parser.table.names[symbol])
+        name = self.parser.table.names[symbol]
+        return self.spelled.get(symbol, PLAIN.get(name, name))
 
     def symbol(self, symbol: int, first: Any, last: Any) -> str:
         """What stands in the input for a symbol, or what it is called."""
