@@ -5,7 +5,7 @@ use indexmap::IndexMap;
 use std::alloc::Global;
 use yexplain::reads::{Made, body_of};
 use ysearch::shortest::Shortest;
-use ysymbols::{Grammar, Sym};
+use ysymbols::{Grammar, Sym, let_go};
 
 /// The most tokens of a sentence that is made.
 pub const MOST_TOKENS: u64 = 200;
@@ -14,10 +14,16 @@ pub const MOST_TOKENS: u64 = 200;
 const MOST_TAKEN: usize = 100_000;
 
 /// The trees that are known.
-#[derive(Drop)]
 pub struct Leaves {
     alloc: Global,
     known: IndexMap<Sym, usize>,
+}
+
+impl Drop for Leaves {
+    // A call in each owner, which keeps their proofs short.
+    fn drop(self) {
+        let_go!(self: Leaves { alloc, known });
+    }
 }
 
 impl Leaves {

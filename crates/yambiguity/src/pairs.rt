@@ -9,7 +9,7 @@ use yexplain::reads::{Made, items_of, next_of};
 use ylalr::{Automaton, END, ERROR};
 use ysearch::queue::Queue;
 use ysearch::shortest::Shortest;
-use ysymbols::Sym;
+use ysymbols::{Sym, let_go};
 use ytables::Tables;
 
 /// What a reduction costs, and what a token does.
@@ -66,7 +66,6 @@ pub struct Joined {
 }
 
 /// A search for two parses.
-#[derive(Drop)]
 pub struct Search {
     alloc: Global,
     cell: Cell,
@@ -75,6 +74,13 @@ pub struct Search {
     queue: Queue,
     /// How many steps may still be taken: items that are looked at.
     pub left: usize,
+}
+
+impl Drop for Search {
+    // A call in each owner, which keeps their proofs short.
+    fn drop(self) {
+        let_go!(self: Search { alloc, cell, pairs, links, queue, left });
+    }
 }
 
 impl Search {

@@ -4,7 +4,7 @@ use indexmap::IndexSet;
 use std::alloc::Global;
 use yexplain::reads::{Made, body_of, goto_of, left_of};
 use ylalr::Automaton;
-use ysymbols::Sym;
+use ysymbols::{Sym, let_go};
 
 /// The number of the stack of the first state alone.
 pub const BOTTOM: usize = 0;
@@ -19,10 +19,16 @@ pub enum Deed {
 }
 
 /// Stacks by their numbers.
-#[derive(Drop)]
 pub struct Stacks {
     /// The top state of each, and the number of what is below it.
     entries: IndexSet<(usize, usize)>,
+}
+
+impl Drop for Stacks {
+    // A call in each owner, which keeps their proofs short.
+    fn drop(self) {
+        let_go!(self: Stacks { entries });
+    }
 }
 
 impl Stacks {

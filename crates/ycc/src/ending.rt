@@ -6,6 +6,7 @@ use yfiles::diagnostic::Diagnostic;
 use yfiles::output::Output;
 use yfiles::steady::Steady;
 use yparts::foreign::Wished;
+use ysymbols::let_go;
 
 /// How the program ends.
 #[derive(Clone, Copy, PartialEq, Eq)]
@@ -50,7 +51,6 @@ impl From<io::Error> for Ending {
 }
 
 /// A grammar file.
-#[derive(Drop)]
 pub struct File {
     /// Its path.
     pub path: String,
@@ -63,6 +63,13 @@ pub struct File {
     pub wished: Wished,
     /// Whether words ask for locations.
     pub locations: bool,
+}
+
+impl Drop for File {
+    // A call in each owner, which keeps their proofs short.
+    fn drop(self) {
+        let_go!(self: File { path, bytes, variables, wished, locations });
+    }
 }
 
 /// Says what a text says, and gives how the program ends.

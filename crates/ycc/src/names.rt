@@ -5,6 +5,7 @@ use std::alloc::Global;
 use std::str;
 use yexplain::reads::Made;
 use yparts::options::{Header, Language, Options};
+use ysymbols::let_go;
 
 /// A text, and the path of its file.
 #[derive(Drop)]
@@ -16,7 +17,6 @@ pub struct Text<'a> {
 }
 
 /// The paths of the parser, its header, the report and the tables.
-#[derive(Drop)]
 pub struct Names {
     /// The parser.
     pub parser: String,
@@ -39,6 +39,16 @@ pub struct Names {
     /// Files that bison writes for older grammars.
     pub position: String,
     pub stack: String,
+}
+
+impl Drop for Names {
+    // A call in each owner, which keeps their proofs short.
+    fn drop(self) {
+        let_go!(self: Names {
+            parser, header, report, table, graph, old_graph, stem, header_name, places,
+            places_name, position, stack
+        });
+    }
 }
 
 /// Endings of grammar files, each with those of the parser and of its header.

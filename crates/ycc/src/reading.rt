@@ -19,6 +19,7 @@ use yparts::parts::Parts;
 use yparts::refusal::Refusal;
 use yparts::{foreign, native};
 use yskeleton::is_of_bison;
+use ysymbols::let_go;
 use ytables::{Tables, resolve};
 
 /// A variable that a word sets, and why it is refused.
@@ -33,7 +34,6 @@ pub struct RefusedWord<'a> {
 }
 
 /// A grammar file read.
-#[derive(Drop)]
 pub struct Reading<'a> {
     /// Its tables.
     pub tables: Tables,
@@ -53,6 +53,16 @@ pub struct Reading<'a> {
     pub refused_words: Vec<RefusedWord<'a>>,
     /// Whether all was written that is said of it.
     pub is_told: bool,
+}
+
+impl Drop for Reading<'_> {
+    // A call in each owner, which keeps their proofs short.
+    fn drop(self) {
+        let_go!(self: Reading {
+            tables, parts, imported, shift_reduce, reduce_reduce, expected_shift,
+            expected_reduce, refused_words, is_told
+        });
+    }
 }
 
 /// The file as what is said of it names it.

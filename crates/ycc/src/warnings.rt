@@ -24,6 +24,7 @@ use yimport::import::{Imported, import};
 use yimport::refusal::Trouble;
 use yimport::symbols::Expected;
 use yskeleton::Skeleton;
+use ysymbols::let_go;
 
 /// A number of conflicts that differs from the one that a file expects.
 fn other<'a>(expected: Option<Expected>, at: Option<usize>, what: What<'a>) -> Finding<'a> {
@@ -150,7 +151,6 @@ fn put_refused_word(out: &mut Output, word: RefusedWord<'_>) {
 }
 
 /// What is told of a file, in its order.
-#[derive(Drop)]
 struct Teller<'a> {
     alloc: Global,
     file: &'a File,
@@ -161,6 +161,13 @@ struct Teller<'a> {
     /// The conflicts of one of byacc's files, which are shown as byacc does.
     shifts: usize,
     reduces: usize,
+}
+
+impl Drop for Teller<'_> {
+    // A call in each owner, which keeps their proofs short.
+    fn drop(self) {
+        let_go!(self: Teller { alloc, file, wanted, told, is_refused, shifts, reduces });
+    }
 }
 
 impl Teller<'_> {

@@ -14,10 +14,10 @@ use crate::symbols::symbols_of;
 use crate::targets::all_targets;
 use crate::translate::translation_of;
 use std::alloc::{AllocError, Global};
+use ysymbols::let_go;
 use ytables::Tables;
 
 /// The arrays of a C parser, and the numbers by which they are read.
-#[derive(Drop)]
 pub struct Code {
     /// How many states there are. In a cell of an action the numbers below are shifts to these
     /// states, this number is the acceptance.
@@ -51,6 +51,16 @@ pub struct Code {
     pub lefts: Numbers,
     /// The token of each number that the lexer may return, up to the greatest.
     pub numbers: Numbers,
+}
+
+impl Drop for Code {
+    // A call in each owner, which keeps their proofs short.
+    fn drop(self) {
+        let_go!(self: Code {
+            states, rules, tokens, actions, usual, sets, span, bits, gotos, targets, symbols,
+            lengths, lefts, numbers
+        });
+    }
 }
 
 /// The arrays of the parser by these tables under a policy of default reductions: the numbers in

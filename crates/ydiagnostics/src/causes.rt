@@ -6,6 +6,7 @@ use crate::kinds::{named, names_of};
 use crate::mends::MendSheet;
 use crate::scene::Scene;
 use serde::Serialize;
+use std::alloc::Global;
 use yambiguity::answer::{Answer, Sentence};
 use yambiguity::choice::Choice;
 use yexplain::reads::{Made, body_of, grammar_of, next_of};
@@ -14,7 +15,7 @@ use ylalr::Item;
 use ymends::mending::Mended;
 use yreports::blocks::{Block, category_of};
 use yreports::offer::Offer;
-use ysearch::groups::MOST_RIVALS;
+use ysearch::groups::{Kind, MOST_RIVALS};
 use ysymbols::let_go;
 
 /// The most nodes of a tree that are listed.
@@ -48,7 +49,7 @@ pub struct NodeSheet {
 }
 
 /// A sentence that a rival derives.
-#[derive(Drop, Serialize)]
+#[derive(Serialize)]
 pub struct SentenceSheet {
     /// `shift` or `reduce`, and by which rule.
     pub action: &'static str,
@@ -61,6 +62,13 @@ pub struct SentenceSheet {
     /// The least part of its tree that differs from that of the other rival, each node before those
     /// below it.
     tree: Option<Vec<NodeSheet>>,
+}
+
+impl Drop for SentenceSheet {
+    // A call in each owner, which keeps their proofs short.
+    fn drop(self) {
+        let_go!(self: SentenceSheet { action, rule, tokens, dot, refused, tree });
+    }
 }
 
 /// A cause.
@@ -96,6 +104,30 @@ impl Drop for CauseSheet {
             kind, category, kinds, states, tokens, loses, rivals, ambiguous, sentences, offer,
             mend, hints
         });
+    }
+}
+
+impl CauseSheet {
+    /// That of a kind, of which no more is said yet.
+    fn new(alloc: Global, kind: &Kind, offer: Offer) -> CauseSheet {
+        CauseSheet {
+            kind: if kind.shift {
+                "shift/reduce"
+            } else {
+                "reduce/reduce"
+            },
+            category: category_of(kind).name(),
+            kinds: Vec::new(alloc),
+            states: Vec::new(alloc),
+            tokens: Vec::new(alloc),
+            loses: Vec::new(alloc),
+            rivals: Vec::new(alloc),
+            ambiguous: false,
+            sentences: Vec::new(alloc),
+            offer: offer.name(),
+            mend: None,
+            hints: Vec::new(alloc),
+        }
     }
 }
 
@@ -182,7 +214,7 @@ impl Scene<'_> {
         tree: Option<usize>,
     ) -> Made<SentenceSheet> {
         let grammar = grammar_of(self.tables);
-        Ok(SentenceSheet {
+        let mut sheet = SentenceSheet {
             action: match choice {
                 Choice::Shift => "shift",
                 Choice::Reduce(_) => "reduce",
@@ -191,11 +223,12 @@ impl Scene<'_> {
             tokens: names_of(self.alloc, grammar, &sentence.tokens)?,
             dot: sentence.dot,
             refused: sentence.refused,
-            tree: match tree {
-                Some(tree) => Some(self.tree(tree)?),
-                None => None,
-            },
-        })
+            tree: None,
+        };
+        if let Some(tree) = tree {
+            sheet.tree = Some(self.tree(tree)?);
+        }
+        Ok(sheet)
     }
 
     /// Sentences for rivals: one with two trees, where it was found, or one for each.
@@ -227,37 +260,25 @@ impl Scene<'_> {
         (offer, mended): (Offer, Option<&Mended>),
     ) -> Made<CauseSheet> {
         let (alloc, kind, group) = (self.alloc, &block.first.kind, block.first.group);
-        let (mut kinds, mut tokens) = (Vec::new(alloc), Vec::new(alloc));
-        let mut hints = Vec::new(alloc);
+        let mut cause = CauseSheet::new(alloc, kind, offer);
         for class in &block.classes {
             for entry in &class.entries {
-                kinds.push(entry.number)?;
-                tokens.push(named(alloc, grammar_of(self.tables), entry.kind.token)?)?;
+                cause.kinds.push(entry.number)?;
+                let token = named(alloc, grammar_of(self.tables), entry.kind.token)?;
+                cause.tokens.push(token)?;
             }
             if let (true, Some(hint)) = (offer.has_hints(), self.hint(class)?) {
-                hints.push(hint)?;
+                cause.hints.push(hint)?;
             }
         }
-        Ok(CauseSheet {
-            kind: if kind.shift {
-                "shift/reduce"
-            } else {
-                "reduce/reduce"
-            },
-            category: category_of(kind).name(),
-            kinds,
-            states: kind.states(alloc, self.tables, group)?,
-            tokens,
-            loses: Vec::from_slice(alloc, kind.others())?,
-            rivals: self.rivals(block)?,
-            ambiguous: answers.iter().any(|answer| answer.twins.is_some()),
-            sentences: self.sentences(answers)?,
-            offer: offer.name(),
-            mend: match mended {
-                Some(mended) => Some(self.mend_sheet(mended)?),
-                None => None,
-            },
-            hints,
-        })
+        cause.states = kind.states(alloc, self.tables, group)?;
+        cause.loses = Vec::from_slice(alloc, kind.others())?;
+        cause.rivals = self.rivals(block)?;
+        cause.ambiguous = answers.iter().any(|answer| answer.twins.is_some());
+        cause.sentences = self.sentences(answers)?;
+        if let Some(mended) = mended {
+            cause.mend = Some(self.mend_sheet(mended)?);
+        }
+        Ok(cause)
     }
 }

@@ -1,6 +1,6 @@
 //! How conflicts are settled otherwise, as data.
 
-use crate::kinds::named;
+use crate::kinds::{named, names_of};
 use crate::scene::Scene;
 use serde::Serialize;
 use std::alloc::Global;
@@ -11,7 +11,7 @@ use yexplain::rivals::Kinds;
 use yexplain::text::Name;
 use ymends::changed_text::directive_of;
 use yreports::blocks::{Class, Loss};
-use ysymbols::Sym;
+use ysymbols::{Sym, let_go};
 
 /// The words of lines.
 const LEFT: &str = "%left";
@@ -35,7 +35,7 @@ const ALL_KINDS: Kinds = Kinds {
 
 /// A change of the text that settles a conflict: what stands from one place of the file to another
 /// becomes a text.
-#[derive(Drop, Serialize)]
+#[derive(Serialize)]
 pub struct EditSheet {
     /// `shift` or `reduce`: what is done then.
     pub action: &'static str,
@@ -52,8 +52,17 @@ pub struct EditSheet {
     example: Vec<String>,
 }
 
+impl Drop for EditSheet {
+    // A call in each owner, which keeps their proofs short.
+    fn drop(self) {
+        let_go!(self: EditSheet {
+            action, file, line, column, end_line, end_column, text, tried, lost, example
+        });
+    }
+}
+
 /// How a conflict is settled otherwise.
-#[derive(Drop, Serialize)]
+#[derive(Serialize)]
 pub struct HintSheet {
     /// What it takes.
     advice: &'static str,
@@ -71,6 +80,15 @@ pub struct HintSheet {
     also: Vec<usize>,
     /// Changes of the text that do it for the first token, where they are known.
     pub edits: Vec<EditSheet>,
+}
+
+impl Drop for HintSheet {
+    // A call in each owner, which keeps their proofs short.
+    fn drop(self) {
+        let_go!(self: HintSheet {
+            advice, rule, tokens, giver, shifts, reduces, own, also, edits
+        });
+    }
 }
 
 /// What a hint says: what it takes, the token that gives the rule its precedence, words that shift
@@ -146,32 +164,34 @@ fn said_of(hint: Hint) -> Said {
     }
 }
 
+impl HintSheet {
+    /// What a hint says by itself.
+    fn new(alloc: Global, hint: Hint, said: Said) -> HintSheet {
+        HintSheet {
+            advice: said.advice,
+            rule: match hint {
+                Hint::Settle(rule, _) => Some(rule),
+                _ => None,
+            },
+            tokens: Vec::new(alloc),
+            giver: None,
+            shifts: Vec::new(alloc),
+            reduces: Vec::new(alloc),
+            own: said.own,
+            also: Vec::new(alloc),
+            edits: Vec::new(alloc),
+        }
+    }
+}
+
 impl Scene<'_> {
     /// The change of the text that a mend is, where the place of the mark is known.
     fn edit(self, mend: Mend, loss: Option<&Loss>) -> Made<Option<EditSheet>> {
         let Some(column) = mend.at.column else {
             return Ok(None);
         };
-        let word = directive_of(mend.kind);
         let (alloc, grammar) = (self.alloc, grammar_of(self.tables));
-        let first = Name(grammar, mend.first);
-        let text = match mend.second {
-            None => format!(in alloc; "{word} {first}\n")?,
-            Some(second) => {
-                let second = Name(grammar, second);
-                format!(in alloc; "{word} {first}\n{word} {second}\n")?
-            }
-        };
-        let mut example = Vec::new(alloc);
-        let (mut tried, mut lost) = (None, 0);
-        if let Some(loss) = loss {
-            for token in &loss.first {
-                example.push(named(alloc, grammar, *token)?)?;
-            }
-            tried = Some(loss.short.saturating_add(loss.longer));
-            lost = loss.lost;
-        }
-        Ok(Some(EditSheet {
+        let mut sheet = EditSheet {
             action: match mend.deed {
                 Deed::Shift => "shift",
                 Deed::Reduce => "reduce",
@@ -181,11 +201,23 @@ impl Scene<'_> {
             column,
             end_line: mend.at.line,
             end_column: column,
-            text,
-            tried,
-            lost,
-            example,
-        }))
+            text: String::new(alloc),
+            tried: None,
+            lost: 0,
+            example: Vec::new(alloc),
+        };
+        let (word, first) = (directive_of(mend.kind), Name(grammar, mend.first));
+        sheet.text = format!(in alloc; "{word} {first}\n")?;
+        if let Some(second) = mend.second {
+            let (before, second) = (sheet.text.as_str(), Name(grammar, second));
+            sheet.text = format!(in alloc; "{before}{word} {second}\n")?;
+        }
+        if let Some(loss) = loss {
+            sheet.example = names_of(alloc, grammar, &loss.first)?;
+            sheet.tried = Some(loss.short.saturating_add(loss.longer));
+            sheet.lost = loss.lost;
+        }
+        Ok(Some(sheet))
     }
 
     /// How the conflicts of a class are settled otherwise.
@@ -193,39 +225,27 @@ impl Scene<'_> {
         let (Some(entry), Some(hint)) = (class.entries.first(), class.settled.hint) else {
             return Ok(None);
         };
-        let (alloc, grammar) = (self.alloc, grammar_of(self.tables));
-        let mut tokens = Vec::new(alloc);
+        let (alloc, grammar, said) = (self.alloc, grammar_of(self.tables), said_of(hint));
+        let mut sheet = HintSheet::new(alloc, hint, said);
         for entry in &class.entries {
-            tokens.push(named(alloc, grammar, entry.kind.token)?)?;
+            sheet.tokens.push(named(alloc, grammar, entry.kind.token)?)?;
         }
-        let said = said_of(hint);
+        if let Some(giver) = said.giver {
+            sheet.giver = Some(named(alloc, grammar, giver)?);
+        }
+        sheet.shifts = words_of(alloc, said.shifts.offered())?;
+        sheet.reduces = words_of(alloc, said.reduces.offered())?;
+        sheet.also = Vec::from_slice(alloc, &class.also)?;
         let asked = entry.cell(self.tables, self.shown.lines);
-        let mut edits = Vec::new(alloc);
         for deed in [Deed::Shift, Deed::Reduce] {
             let mend = mend_of(asked, hint, deed).filter(|_| self.shown.is_plain);
             if let Some(mend) = mend {
                 let loss = class.losses.iter().find(|it| it.deed == deed);
                 if let Some(edit) = self.edit(mend, loss)? {
-                    edits.push(edit)?;
+                    sheet.edits.push(edit)?;
                 }
             }
         }
-        Ok(Some(HintSheet {
-            advice: said.advice,
-            rule: match hint {
-                Hint::Settle(rule, _) => Some(rule),
-                _ => None,
-            },
-            tokens,
-            giver: match said.giver {
-                Some(giver) => Some(named(alloc, grammar, giver)?),
-                None => None,
-            },
-            shifts: words_of(alloc, said.shifts.offered())?,
-            reduces: words_of(alloc, said.reduces.offered())?,
-            own: said.own,
-            also: Vec::from_slice(alloc, &class.also)?,
-            edits,
-        }))
+        Ok(Some(sheet))
     }
 }

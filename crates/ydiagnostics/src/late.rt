@@ -38,9 +38,15 @@ impl Drop for Late {
 }
 
 /// The arrays of such a parser, once they were asked for.
-#[derive(Drop)]
 pub struct Defaults {
     code: Option<Code>,
+}
+
+impl Drop for Defaults {
+    // A call in each owner, which keeps their proofs short.
+    fn drop(self) {
+        let_go!(self: Defaults { code });
+    }
 }
 
 /// The rule by which a parser of these arrays reduces in a state at a token, where it does.

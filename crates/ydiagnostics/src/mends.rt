@@ -8,7 +8,7 @@ use ymends::changed_text::Change;
 use ymends::idioms::{Form, Idiom};
 use ymends::mending::{Apart, Mended, Tried};
 use ymends::rewriting::Rewriting;
-use ysymbols::Sym;
+use ysymbols::{Sym, let_go};
 
 /// An idiom: its form, the nonterminal, a second symbol, and the rules.
 #[derive(Drop, Serialize)]
@@ -44,11 +44,18 @@ struct ApartSheet {
 }
 
 /// What is known of a cause beside its rivals.
-#[derive(Drop, Serialize)]
+#[derive(Serialize)]
 pub struct MendSheet {
     idiom: Option<IdiomSheet>,
     tried: Option<TriedSheet>,
     apart: Option<ApartSheet>,
+}
+
+impl Drop for MendSheet {
+    // A call in each owner, which keeps their proofs short.
+    fn drop(self) {
+        let_go!(self: MendSheet { idiom, tried, apart });
+    }
 }
 
 /// A change: what is done, in which rule, with which symbol, and what comes in its place.
@@ -139,20 +146,21 @@ impl Scene<'_> {
 
     /// What is known of a cause beside its rivals.
     pub fn mend_sheet(self, mended: &Mended) -> Made<MendSheet> {
+        let mut sheet = MendSheet {
+            idiom: None,
+            tried: None,
+            apart: None,
+        };
         let place = mended.idiom.unwrap_or(usize::MAX);
-        Ok(MendSheet {
-            idiom: match self.sought.idioms.get(place) {
-                Some(idiom) => Some(self.idiom_sheet(idiom)?),
-                None => None,
-            },
-            tried: match mended.tried {
-                Some(tried) => Some(self.tried_sheet(tried)?),
-                None => None,
-            },
-            apart: match &mended.apart {
-                Some(apart) => Some(self.apart_sheet(apart)?),
-                None => None,
-            },
-        })
+        if let Some(idiom) = self.sought.idioms.get(place) {
+            sheet.idiom = Some(self.idiom_sheet(idiom)?);
+        }
+        if let Some(tried) = mended.tried {
+            sheet.tried = Some(self.tried_sheet(tried)?);
+        }
+        if let Some(apart) = &mended.apart {
+            sheet.apart = Some(self.apart_sheet(apart)?);
+        }
+        Ok(sheet)
     }
 }

@@ -23,6 +23,7 @@ use yreports::causes::causes_of;
 use yreports::warnings::warnings_of;
 use ysearch::groups::Conflicts;
 use ysearch::trial::empty_session;
+use ysymbols::let_go;
 
 /// What is asked for.
 #[derive(Clone, Copy)]
@@ -74,19 +75,22 @@ fn sheet_of(
         sought: &sought,
     };
     let grammar = grammar_of(scene.tables);
-    Ok(ConflictSheet {
+    let mut sheet = ConflictSheet {
         shift_reduce: counts.shift_reduce,
         reduce_reduce: counts.reduce_reduce,
         cells,
         accepted,
-        kinds: shown.kind_sheets(alloc, grammar, &found, &sought.findings)?,
+        kinds: Vec::new(alloc),
         others,
-        causes: scene.tell(told, &found)?,
-        common: match common {
-            Some(common) => Some(common_sheet(alloc, grammar, &common)?),
-            None => None,
-        },
-    })
+        causes: Vec::new(alloc),
+        common: None,
+    };
+    sheet.kinds = shown.kind_sheets(alloc, grammar, &found, &sought.findings)?;
+    sheet.causes = scene.tell(told, &found)?;
+    if let Some(common) = common {
+        sheet.common = Some(common_sheet(alloc, grammar, &common)?);
+    }
+    Ok(sheet)
 }
 
 /// Tells the conflicts and the warnings of a grammar whose conflicts are judged, and gives the
@@ -198,7 +202,6 @@ pub fn run_report<F: Files + AllocGlobal, W: Write>(
 }
 
 /// What is said of a grammar, and the grammar, where it is taken.
-#[derive(Drop)]
 pub struct Told {
     /// What is said.
     pub told: Diagnostics,
@@ -206,6 +209,13 @@ pub struct Told {
     pub conflicts: Option<ConflictSheet>,
     /// Its tables, and where things stand in its file.
     pub opened: Option<Opened>,
+}
+
+impl Drop for Told {
+    // A call in each owner, which keeps their proofs short.
+    fn drop(self) {
+        let_go!(self: Told { told, conflicts, opened });
+    }
 }
 
 impl Told {

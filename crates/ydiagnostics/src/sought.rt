@@ -14,12 +14,12 @@ use yreports::lost::try_choices;
 use yreports::offer::Offer;
 use ysearch::finding::{Finding, Seeker};
 use ysearch::groups::Conflicts;
+use ysymbols::let_go;
 
 /// The most kinds for which lists are sought.
 const MOST_SOUGHT: usize = 200;
 
 /// What was sought for conflicts.
-#[derive(Drop)]
 pub struct Sought {
     /// The conflicts, those of one state between the same rivals together.
     pub blocks: Blocks,
@@ -33,6 +33,13 @@ pub struct Sought {
     pub found: Ambiguities,
     /// The idioms of the grammar.
     pub idioms: Vec<Idiom>,
+}
+
+impl Drop for Sought {
+    // A call in each owner, which keeps their proofs short.
+    fn drop(self) {
+        let_go!(self: Sought { blocks, findings, answers, mended, found, idioms });
+    }
 }
 
 /// What is found for the conflicts of a session without tokens, as long as there are steps for it.
@@ -71,7 +78,7 @@ pub fn sought_for(
         }
         findings.push(finding).map_err(AllocError::from)?;
     }
-    let Mender { idioms, .. } = mender;
+    let idioms = mender.into_idioms();
     Ok(Sought {
         blocks,
         findings,

@@ -7,7 +7,7 @@ use yexplain::reads::{Made, body_of, grammar_of, left_of, name_of, set};
 use ylalr::END;
 use yparse::states::act;
 use ysearch::shortest::Shortest;
-use ysymbols::{Grammar, Sym};
+use ysymbols::{Grammar, Sym, let_go};
 use ytables::{Action, Tables};
 
 /// The most sentences, their most tokens, and how many strings are put together in all for one
@@ -28,12 +28,18 @@ const MOST_PARSED: usize = 5_000;
 const FAR: u64 = 1_000_000_000_000;
 
 /// All sentences of up to so many tokens.
-#[derive(Drop)]
 pub struct Language {
     /// The sentences.
     pub sentences: Vec<Vec<Sym>>,
     /// How many tokens they may have.
     pub most: usize,
+}
+
+impl Drop for Language {
+    // A call in each owner, which keeps their proofs short.
+    fn drop(self) {
+        let_go!(self: Language { sentences, most });
+    }
 }
 
 /// What strings are made with.

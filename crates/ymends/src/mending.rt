@@ -14,7 +14,7 @@ use ylalr::{END, ERROR, token_count};
 use ysearch::groups::{Group, Kind};
 use ysearch::moves::Moves;
 use ysearch::shortest::Shortest;
-use ysymbols::{Grammar, Sym};
+use ysymbols::{Grammar, Sym, let_go};
 use ytables::Tables;
 
 /// The most states of tables of which changes are tried.
@@ -65,7 +65,6 @@ pub struct Apart {
 }
 
 /// What is known of a conflict beside its rivals.
-#[derive(Drop)]
 pub struct Mended {
     /// The place of the idiom from which it comes.
     pub idiom: Option<usize>,
@@ -73,6 +72,13 @@ pub struct Mended {
     pub tried: Option<Tried>,
     /// What the second token tells.
     pub apart: Option<Apart>,
+}
+
+impl Drop for Mended {
+    // A call in each owner, which keeps their proofs short.
+    fn drop(self) {
+        let_go!(self: Mended { idiom, tried, apart });
+    }
 }
 
 /// A change to be tried.
@@ -84,7 +90,6 @@ struct Candidate {
 }
 
 /// What tries changes for the conflicts of a run.
-#[derive(Drop)]
 pub struct Mender {
     alloc: Global,
     /// The idioms of the grammar.
@@ -96,6 +101,13 @@ pub struct Mender {
     /// How many changes may still be tried, and of how many the language be compared.
     left: usize,
     compared: usize,
+}
+
+impl Drop for Mender {
+    // A call in each owner, which keeps their proofs short.
+    fn drop(self) {
+        let_go!(self: Mender { alloc, idioms, moves, language, known, left, compared });
+    }
 }
 
 /// Whether a grammar has precedences.
@@ -227,6 +239,20 @@ fn for_shift(alloc: Global, grammar: &Grammar, rule: usize) -> Made<Vec<Candidat
 }
 
 impl Mender {
+    /// The idioms of the grammar, once no more is tried.
+    pub fn into_idioms(self) -> Vec<Idiom> {
+        let Mender {
+            alloc: _,
+            idioms,
+            moves: _,
+            language: _,
+            known: _,
+            left: _,
+            compared: _,
+        } = self;
+        idioms
+    }
+
     /// What tries changes of the grammar of tables, unless these have too many states.
     pub fn new(alloc: Global, tables: &Tables) -> Made<Mender> {
         let automaton = tables.automaton();

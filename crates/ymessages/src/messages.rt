@@ -13,10 +13,10 @@ use yfiles::diagnostic::Diagnostics;
 use yfiles::reading::Limited;
 use yinput::language::Language;
 use yinput::spec::read_lexer;
+use ysymbols::let_go;
 use ytables::Tables;
 
 /// A file of messages: its bytes, its parts, and what its inputs claim.
-#[derive(Drop)]
 pub struct Messages {
     /// The bytes.
     pub bytes: Vec<u8>,
@@ -24,6 +24,13 @@ pub struct Messages {
     pub(crate) parts: Vec<Part>,
     /// The inputs.
     pub(crate) claims: Claims,
+}
+
+impl Drop for Messages {
+    // A call in each owner, which keeps their proofs short.
+    fn drop(self) {
+        let_go!(self: Messages { bytes, parts, claims });
+    }
 }
 
 /// Whether all inputs of a file are tokens of these tables.

@@ -22,7 +22,7 @@ use ylalr::END;
 use ylex::writer::Writer;
 use yparse::Session;
 use ysearch::trial::empty_session;
-use ysymbols::Grammar;
+use ysymbols::{Grammar, let_go};
 use yview::page::Page;
 
 /// What is asked for: the errors of a grammar, or a file of messages for them.
@@ -43,7 +43,6 @@ pub struct Asked<'a> {
 }
 
 /// A file of messages with what is found for it.
-#[derive(Drop)]
 struct Found {
     session: Session,
     messages: Messages,
@@ -51,6 +50,13 @@ struct Found {
     /// Those by inputs for whose tokens texts are found, where some have none.
     told: Option<Errors>,
     writer: Option<Writer>,
+}
+
+impl Drop for Found {
+    // A call in each owner, which keeps their proofs short.
+    fn drop(self) {
+        let_go!(self: Found { session, messages, errors, told, writer });
+    }
 }
 
 /// Tokens that inputs can't have, where they are texts.

@@ -7,7 +7,7 @@ use yexplain::reads::Made;
 use yexplain::why::{Question, Settled};
 use yfiles::category::{Categories, Category};
 use ysearch::groups::{Conflicts, Group, Kind};
-use ysymbols::Sym;
+use ysymbols::{Sym, let_go};
 use ytables::Tables;
 
 /// The most kinds that are put into blocks.
@@ -46,7 +46,6 @@ pub struct Loss {
 }
 
 /// Conflicts of a block that are settled in one way.
-#[derive(Drop)]
 pub struct Class {
     /// The conflicts.
     pub entries: Vec<Entry>,
@@ -58,8 +57,14 @@ pub struct Class {
     pub losses: Vec<Loss>,
 }
 
+impl Drop for Class {
+    // A call in each owner, which keeps their proofs short.
+    fn drop(self) {
+        let_go!(self: Class { entries, settled, also, losses });
+    }
+}
+
 /// Conflicts of one state between the same rivals.
-#[derive(Drop)]
 pub struct Block {
     /// The first of them.
     pub first: Entry,
@@ -67,13 +72,26 @@ pub struct Block {
     pub classes: Vec<Class>,
 }
 
+impl Drop for Block {
+    // A call in each owner, which keeps their proofs short.
+    fn drop(self) {
+        let_go!(self: Block { first, classes });
+    }
+}
+
 /// The blocks of the first states.
-#[derive(Drop)]
 pub struct Blocks {
     /// In the order of the states.
     pub list: Vec<Block>,
     /// How many kinds, from the first on, stand in them.
     pub kinds: usize,
+}
+
+impl Drop for Blocks {
+    // A call in each owner, which keeps their proofs short.
+    fn drop(self) {
+        let_go!(self: Blocks { list, kinds });
+    }
 }
 
 impl Entry {

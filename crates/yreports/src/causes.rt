@@ -12,7 +12,7 @@ use ymends::idioms::idioms_of;
 use ymends::mending::MOST_STATES;
 use ysearch::groups::{Conflicts, Kind};
 use ysearch::shortest::Shortest;
-use ysymbols::{Grammar, Sym};
+use ysymbols::{Grammar, Sym, let_go};
 use ytables::Tables;
 
 /// The most kinds of conflicts among which causes are sought.
@@ -41,7 +41,6 @@ pub struct Change {
 }
 
 /// What the conflicts come from.
-#[derive(Drop)]
 pub struct Causes {
     /// How many conflicts there are.
     pub all: usize,
@@ -51,6 +50,13 @@ pub struct Causes {
     pub pairs: IndexMap<(usize, usize), usize>,
     /// Rules of these pairs that others cover.
     pub covered: Vec<Covered>,
+}
+
+impl Drop for Causes {
+    // A call in each owner, which keeps their proofs short.
+    fn drop(self) {
+        let_go!(self: Causes { all, changes, pairs, covered });
+    }
 }
 
 impl Causes {

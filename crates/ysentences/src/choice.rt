@@ -12,7 +12,7 @@ use ylalr::ERROR;
 use yparse::Session;
 use ysearch::lists::Lists;
 use ysearch::search::Finder;
-use ysymbols::Sym;
+use ysymbols::{Sym, let_go};
 use ytables::Action;
 
 /// How many further lists are tried for an element that the first one misses.
@@ -66,7 +66,6 @@ pub struct Chooser<'a> {
 }
 
 /// The sentences that were chosen.
-#[derive(Drop)]
 pub struct Chosen {
     /// All that were taken, also those that aren't kept.
     pub sentences: Vec<Sentence>,
@@ -76,6 +75,13 @@ pub struct Chosen {
     pub missing: Vec<Missing>,
     /// How many elements were used for the first time by the last sentence that was offered.
     new: usize,
+}
+
+impl Drop for Chosen {
+    // A call in each owner, which keeps their proofs short.
+    fn drop(self) {
+        let_go!(self: Chosen { sentences, used, missing, new });
+    }
 }
 
 impl Chosen {

@@ -10,7 +10,7 @@ use yparse::Session;
 use yparse::machine::StepKind;
 use yparse::states::stack_states;
 use ysearch::trial::{Pace, go_back, put_all};
-use ysymbols::Sym;
+use ysymbols::{Sym, let_go};
 
 /// The most steps of a parse over a list.
 const MOST_STEPS: usize = 100_000;
@@ -21,7 +21,6 @@ const MOST_FOR_A_TOKEN: usize = 20;
 const MOST_IN_A_ROW: usize = 1_000;
 
 /// What tries lists in a session without tokens.
-#[derive(Drop)]
 pub struct Trier<'a> {
     alloc: Global,
     /// The session, at its start.
@@ -32,6 +31,13 @@ pub struct Trier<'a> {
     pub uses: Uses,
     /// How many steps the last list took.
     pub steps: usize,
+}
+
+impl Drop for Trier<'_> {
+    // A call in each owner, which keeps their proofs short.
+    fn drop(self) {
+        let_go!(self: Trier { alloc, session, cells, uses, steps });
+    }
 }
 
 impl<'a> Trier<'a> {

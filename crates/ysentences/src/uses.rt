@@ -9,12 +9,12 @@ use ylalr::ERROR;
 use yparse::Session;
 use yparse::machine::StepKind;
 use ysearch::trial::Pace;
+use ysymbols::let_go;
 use ytables::Tables;
 use yview::reading::token_ahead;
 
 /// What parses use, in rounds: for each rule, state and filled cell the round in which it was used
 /// last, which is 0 for none.
-#[derive(Drop)]
 pub struct Uses {
     rules: Vec<usize>,
     states: Vec<usize>,
@@ -22,6 +22,13 @@ pub struct Uses {
     round: usize,
     /// What was used in this round, each element once, in the order of the steps.
     pub used: Vec<(Kind, usize)>,
+}
+
+impl Drop for Uses {
+    // A call in each owner, which keeps their proofs short.
+    fn drop(self) {
+        let_go!(self: Uses { rules, states, cells, round, used });
+    }
 }
 
 /// Notes the round in which an element is used, and says whether it is for the first time in that.

@@ -9,6 +9,7 @@ use yinput::language::Input;
 use yinput::session_of;
 use yparse::Tokens;
 use ysearch::trial::Pace;
+use ysymbols::let_go;
 use ytables::Tables;
 
 /// The most steps of a parse, which are as many as may stand.
@@ -41,7 +42,6 @@ impl Listed {
 }
 
 /// What parses by tables have used.
-#[derive(Drop)]
 pub struct Walked {
     /// The tables.
     pub tables: Tables,
@@ -49,6 +49,13 @@ pub struct Walked {
     pub cells: Cells,
     /// What was used.
     pub uses: Uses,
+}
+
+impl Drop for Walked {
+    // A call in each owner, which keeps their proofs short.
+    fn drop(self) {
+        let_go!(self: Walked { tables, cells, uses });
+    }
 }
 
 /// What parses over these inputs use, each up to its end, also through errors.

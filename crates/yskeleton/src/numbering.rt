@@ -23,7 +23,6 @@ const NO_TOKEN: usize = 2_147_483_647;
 const UNDEFINED: &[u8] = b"YYUNDEF";
 
 /// The numbers of tokens in a parser.
-#[derive(Drop)]
 pub struct Numbering {
     /// The number of each token, where it has one.
     pub numbers: Vec<Option<usize>>,
@@ -39,6 +38,15 @@ pub struct Numbering {
     pub order: Vec<Sym>,
     /// Whether that is another one than that of the grammar.
     pub is_reordered: bool,
+}
+
+impl Drop for Numbering {
+    // A call in each owner, which keeps their proofs short.
+    fn drop(self) {
+        let_go!(self: Numbering {
+            numbers, undefined, array, above, is_changed, order, is_reordered
+        });
+    }
 }
 
 /// The number that a grammar gives a token.

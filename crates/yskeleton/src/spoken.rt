@@ -6,6 +6,7 @@ use crate::strings::{Escaped, put_string};
 use std::alloc::Global;
 use yexplain::reads::Made;
 use yfiles::output::Output;
+use ysymbols::let_go;
 
 /// The most bytes of a text in one piece: so no string is longer than C90 promises to take.
 const MOST_BYTES: usize = 100;
@@ -25,13 +26,19 @@ pub enum Spoken<'a> {
 
 /// The messages of a parser: their pieces as items of an array, and where those of each state
 /// begin.
-#[derive(Drop)]
 pub struct Speech {
     items: Output,
     /// How many items there are; the first one is the end of no message.
     count: usize,
     /// For each state the first item of its message; 0 where it has none.
     firsts: Vec<usize>,
+}
+
+impl Drop for Speech {
+    // A call in each owner, which keeps their proofs short.
+    fn drop(self) {
+        let_go!(self: Speech { items, count, firsts });
+    }
 }
 
 impl Speech {
