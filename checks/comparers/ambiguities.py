@@ -36,8 +36,6 @@ IN_VAIN = re.compile(
 )
 REFUSED = re.compile(r"    The tables refuse it at (?:token (\d+)|its end)\.")
 INDENT, STEP = 4, 2
-# Whether it is told of all sentences that the tables refuse them, or maybe of some.
-ALL, MAYBE = "all", "maybe"
 # The most steps of a parse that is looked at.
 MOST_STEPS = 10_000
 ENDLESS = "endless"
@@ -241,10 +239,9 @@ class Told:
             is_tree = bool(by and not by[2]) or (is_tree and line.startswith("    "))
 
 
-def wrong_apart(grammar, told, counts, ends):
-    """What is wrong with the sentences that are told of rivals. After one whose parse doesn't end, of
-    none is told that the tables refuse it, and `ends` is empty; after one with two trees whose parse
-    doesn't, it may be told, and `ends` has no `ALL`."""
+def wrong_apart(grammar, told, counts):
+    """What is wrong with the sentences that are told of rivals. Of one whose parse doesn't end it isn't
+    told that the tables refuse it."""
     names = grammar.names
     for rule, words, refused in told.apart:
         counts["sentences"] += 1
@@ -252,10 +249,7 @@ def wrong_apart(grammar, told, counts, ends):
         tokens, dot = read_words(words, names)
         wrong = wrong_one(grammar, tokens, dot, rule, names.index(told.token))
         place = refused_by(grammar, tokens)
-        if place == ENDLESS:
-            ends.clear()
-        wanted = {place} if ALL in ends else {place, None} if ends else {None}
-        if wrong or refused not in wanted:
+        if wrong or refused != (None if place == ENDLESS else place):
             return wrong or f"refused at {place}"
     return None
 
@@ -269,7 +263,7 @@ def wrong_offer(told, counts):
     return "offered" if told.apart and told.is_offered else None
 
 
-def wrong_told(grammar, told, counts, ends):
+def wrong_told(grammar, told, counts):
     """What is wrong with what is told of one conflict."""
     names, wrong = grammar.names, wrong_offer(told, counts)
     if wrong:
@@ -277,19 +271,16 @@ def wrong_told(grammar, told, counts, ends):
     if told.two:
         counts["sentences with two trees"] += 1
         tokens, _ = read_words(told.two, names)
-        if refused_by(grammar, tokens) == ENDLESS:
-            ends.discard(ALL)
         return wrong_two(grammar, tokens) or wrong_trees(grammar, told.drawn)
-    return wrong_apart(grammar, told, counts, ends)
+    return wrong_apart(grammar, told, counts)
 
 
 def differences(grammar, text, counts):
     """What is wrong with the sentences of a report."""
-    ends = {ALL, MAYBE}
     for part in text.split("\n\n")[1:]:
         lines = part.splitlines()
         if lines and HEAD.match(lines[0]):
-            wrong = wrong_told(grammar, Told(lines), counts, ends)
+            wrong = wrong_told(grammar, Told(lines), counts)
             if wrong:
                 return f"{wrong}:\n{part}"
     return None

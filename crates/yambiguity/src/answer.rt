@@ -16,8 +16,11 @@ use ylalr::{END, ERROR};
 use yparse::{Tokens, Verdict, judge};
 use ysearch::budget::Share;
 use ysearch::search::{Finder, Found};
-use ysymbols::Sym;
+use ysymbols::{Sym, let_go};
 use ytables::Tables;
+
+/// How many sentences whose parse takes too long are judged; after these none is.
+const MOST_ENDLESS: usize = 50;
 
 /// The most steps of a search for two trees: items that are looked at, and pairs of stacks.
 const MOST_STEPS: usize = 20_000;
@@ -52,7 +55,6 @@ pub struct Sentence {
 }
 
 /// One sentence with two trees, one by each of two rivals: this was checked.
-#[derive(Drop)]
 pub struct Twins {
     /// The sentence; its rival is the first one.
     pub sentence: Sentence,
@@ -62,6 +64,13 @@ pub struct Twins {
     pub trees: (usize, usize),
     /// How many leaves of these stand before the conflict, as they are drawn.
     pub dot: usize,
+}
+
+impl Drop for Twins {
+    // A call in each owner, which keeps their proofs short.
+    fn drop(self) {
+        let_go!(self: Twins { sentence, second, trees, dot });
+    }
 }
 
 /// What was found for two rivals.
@@ -79,7 +88,6 @@ pub struct Answer {
 }
 
 /// What seeks sentences for the conflicts of a run.
-#[derive(Drop)]
 pub struct Ambiguities {
     alloc: Global,
     /// The trees of what was found.
@@ -89,8 +97,15 @@ pub struct Ambiguities {
     steps: Share,
     /// How many parses of sentences in all ways may.
     parses: usize,
-    /// Whether sentences are still judged: until the parse of one takes too long.
-    judges: bool,
+    /// How many parses may still take too long while sentences are judged.
+    endless: usize,
+}
+
+impl Drop for Ambiguities {
+    // A call in each owner, which keeps their proofs short.
+    fn drop(self) {
+        let_go!(self: Ambiguities { alloc, trees, leaves, steps, parses, endless });
+    }
 }
 
 impl Answer {
@@ -114,7 +129,7 @@ impl Ambiguities {
             leaves: Leaves::new(alloc),
             steps: Share::new(ALL_STEPS, 8, (LEAST_STEPS, MOST_STEPS)),
             parses: ALL_PARSES,
-            judges: true,
+            endless: MOST_ENDLESS,
         }
     }
 
@@ -434,14 +449,14 @@ impl Ambiguities {
         let tokens = Tokens {
             symbols: Vec::from_slice(self.alloc, tokens)?,
         };
-        if !self.judges || !tokens.fits(tables) {
+        if self.endless == 0 || !tokens.fits(tables) {
             return Ok(None);
         }
         match judge(self.alloc, tables, &tokens) {
             Ok(Verdict::Rejected(place)) => Ok(Some(place)),
             Ok(Verdict::Accepted(_)) => Ok(None),
             Ok(Verdict::Limit) => {
-                self.judges = false;
+                self.endless = self.endless.saturating_sub(1);
                 Ok(None)
             }
             Err(_) => Err(AllocError),
