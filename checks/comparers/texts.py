@@ -57,8 +57,9 @@ NAMED = re.compile(
     r"|nothing stands after the name|this line is no text in UTF-8"
     r"|no token of the grammar has this name"
     r"|an input has tokens alone, and neither error nor \$end"
+    r"|after --upper the words stand in small letters"
     r"|no directive of a SPEC; there are %skip, %keywords and %none)"
-    r"|text:\d+:\d+: error: (no line of the SPEC matches here: .+|unexpected (\S+|\".+\"|end of (input|line))[,;] .+)"
+    r"|text:\d+:\d+: error: (no line of the SPEC matches here: .+|unexpected (\S+|\".+\"|end of (input|line)|(\S+ )?'.+')[,;] .+)"
     r"|text: (accepted after \d+ steps|error: undecided after 1,000,000 steps)"
 )
 
@@ -93,7 +94,11 @@ class Spec:
             self.words.append((token, name.encode(), folded))
             self.texts += [name, name.lower()]
             self.lines.append((1, f"%keywords {'-i ' * folded}{name}", None))
-        elif way < 0.25:
+        elif way < 0.3 and name == name.upper():
+            self.words.append((token, name.lower().encode(), False))
+            self.texts += [name.lower()]
+            self.lines.append((1, f"%keywords --upper {name.lower()}", None))
+        elif way < 0.35:
             self.absent.add(token)
             self.lines.append((2, f"%none {name}", None))
         else:
@@ -128,6 +133,10 @@ class Spec:
             best = (length, token) if length > best[0] else best
         return best
 
+    def word_at(self, text, at):
+        """The word that begins at a place."""
+        return text[at : at + self.longest(text, at)[0]].decode()
+
     def cut(self, text):
         """The tokens of a text with their places, and where the last one ends; or where nothing
         matches."""
@@ -151,6 +160,17 @@ class Spec:
             return {"$end": "end of input", r"'\012'": "end of line"}.get(name, name)
         shown = texts[0].replace("\\", r"\\").replace('"', r'\"')
         return f'"{shown}"'
+
+
+def met(spec, token, word):
+    """What people are told of a token that is this word of a text: what it is called, and the word,
+    unless that says no more."""
+    name, called = spec.grammar.names[token], spec.called(token)
+    if not word or name.startswith("'") or called == f'"{word}"':
+        return called
+    shown = "".join(it if " " <= it <= "~" else f"\\x{ord(it):02x}" for it in word[:40])
+    shown = f"'{shown}{'..' * (len(word) > 40)}'"
+    return shown if called == name and word.lower() == name.lower() else f"{called} {shown}"
 
 
 def text_of(spec, tokens, rng):
@@ -282,7 +302,8 @@ def answer(tables, spec, text):
     wanted = expected(tables, spec, symbols[:taken])
     ahead, at = tokens[taken] if taken < len(tokens) else (END, end)
     line, column = spot(text, at)
-    called = spec.called(ahead)
+    word = spec.word_at(text, at) if taken < len(tokens) else ""
+    called = met(spec, ahead, word)
     said = f"text:{line}:{column}: error: unexpected {called}{wanted}\n" + shown_line(text, at)
     return said + late(tables, symbols[:taken], ahead) if wanted else None
 
@@ -336,7 +357,7 @@ def fault_of_spoiled(folder, ydebug, rng, counts):
     said = (out or message).splitlines()[:1]
     counts["spoiled"] += 1
     counts["refused SPECs"] += bool(message)
-    if status not in (0, 1) or out and message or not said or not NAMED.fullmatch(said[0]):
+    if status not in (0, 1, 4) or out and message or not said or not NAMED.fullmatch(said[0]):
         return f"spoiled: {status} {message}{out}"
     return None
 

@@ -4,7 +4,7 @@ use crate::given::Given;
 use std::alloc::Global;
 use std::io::{self, ErrorKind, Read, Write};
 use std::rt::Files;
-use ydiagnostics::checking::{self, run_checking};
+use ydiagnostics::checking::{self, add_further, run_checking};
 use ydiagnostics::format::Format;
 use ydiagnostics::late::Defaults;
 use ydiagnostics::messaged::Messaged;
@@ -13,6 +13,9 @@ use yfiles::reading::Limited;
 use yinput::language::Input;
 use yinput::verdict::verdict_on;
 use yinput::verdict_text::{put_choice, put_plain_choice};
+
+/// The exit status of a run over one input that is rejected.
+const REJECTED: u8 = 1;
 
 /// What is asked for: verdicts on inputs.
 #[derive(Clone, Copy)]
@@ -51,31 +54,33 @@ impl Asked<'_> {
             one.help(late.text(alloc)?)?;
         }
         one.put(out, "ydebug")?;
-        Ok(1)
+        Ok(verdict.status())
     }
 }
 
 impl<F: Files + AllocGlobal, R: Read, E: Write> Given<'_, F, R, E> {
-    /// Writes what comes of an input, and gives its exit status.
+    /// Writes what comes of an input, and gives its exit status, and the input, where it is rejected.
     fn put_input<W: Write>(
         &mut self,
         asked: Asked<'_>,
         (told, defaults): (&Messaged, &mut Defaults),
         path: &str,
         out: &mut W,
-    ) -> io::Result<u8> {
+    ) -> io::Result<(u8, Option<Input>)> {
         let most = asked.inputs.most;
         match self.read_input(&told.language, Limited { path, most })? {
             Ok(input) => {
                 let by = (told, defaults);
-                asked.put_verdict(self.rt.alloc(), out, by, path, &input)
+                let status = asked.put_verdict(self.rt.alloc(), out, by, path, &input)?;
+                Ok((status, (status == REJECTED).then_some(input)))
             }
             Err(fault) => {
                 if asked.plain {
-                    return fault.put_plain(out);
+                    return Ok((fault.put_plain(out)?, None));
                 }
                 let grammar = asked.inputs.files.grammar;
-                fault.put(self.rt, out, grammar, &told.language.opened)
+                let status = fault.put(self.rt, out, grammar, &told.language.opened)?;
+                Ok((status, None))
             }
         }
     }
@@ -84,19 +89,26 @@ impl<F: Files + AllocGlobal, R: Read, E: Write> Given<'_, F, R, E> {
     fn put_inputs<W: Write>(
         &mut self,
         asked: Asked<'_>,
-        told: &Messaged,
+        messaged: Messaged,
         out: &mut W,
     ) -> io::Result<u8> {
+        let (alloc, mut messaged) = (self.rt.alloc(), messaged);
         let (mut status, mut defaults) = (0, Defaults::new());
         for path in asked.inputs.inputs {
-            let ended = match self.put_input(asked, (told, &mut defaults), path, out) {
+            let ended = self.put_input(asked, (&messaged, &mut defaults), path, out);
+            let (ended, rejected) = match ended {
                 Err(error) if error.kind() == ErrorKind::OutOfMemory => {
                     writeln!(out, "{path}: no memory")?;
-                    3
+                    (3, None)
                 }
                 ended => ended?,
             };
             status = ended.max(status);
+            if let (true, Some(input)) = (asked.inputs.all, rejected) {
+                let mut told = Diagnostics::new(alloc);
+                messaged = add_further(alloc, messaged, &mut told, (path, None), &input)?;
+                told.put(out, "ydebug")?;
+            }
         }
         Ok(status)
     }
@@ -118,7 +130,7 @@ impl<F: Files + AllocGlobal, R: Read, E: Write> Given<'_, F, R, E> {
                 } else if asked.choice {
                     put_choice(out, path, tables)?;
                 }
-                self.put_inputs(asked, &messaged, out)
+                self.put_inputs(asked, messaged, out)
             }
             Err(status) => Ok(status),
         }
@@ -126,8 +138,9 @@ impl<F: Files + AllocGlobal, R: Read, E: Write> Given<'_, F, R, E> {
 
     /// Writes what is asked for, and gives the exit status: 0 where all inputs are accepted, 1
     /// where the grammar, the SPEC, the file of messages or an input is refused or one isn't
-    /// accepted, 3 where one can't be read, or memory runs out. For people, faults of the grammar,
-    /// the SPEC and the file of messages are reported as errors.
+    /// accepted, 3 where one can't be read, or memory runs out, 4 where there is no verdict on one
+    /// within 1,000,000 steps. For people, faults of the grammar, the SPEC and the file of messages
+    /// are reported as errors.
     pub fn run_check<W: Write>(&mut self, asked: Asked<'_>, out: &mut W) -> io::Result<u8> {
         if asked.inputs.format == Format::Text {
             return self.put_verdicts(asked, out);

@@ -2,7 +2,7 @@
 
 use crate::document::Said;
 use crate::format::Format;
-use crate::inputs::{InputSheet, answer_of};
+use crate::inputs::{InputSheet, answer_of, place};
 use crate::late::Defaults;
 use crate::messaged::Messaged;
 use std::alloc::{AllocError, Global};
@@ -11,8 +11,8 @@ use std::rt::Files;
 use yfiles::category::Categories;
 use yfiles::diagnostic::{Diagnostics, Severity};
 use yfiles::reading::{Limited, all_bytes};
-use yinput::language::LanguageFiles;
-use yinput::verdict::verdict_on;
+use yinput::language::{Input, LanguageFiles};
+use yinput::verdict::{Verdict, verdict_on};
 
 /// What is asked for: verdicts on inputs.
 #[derive(Clone, Copy)]
@@ -25,6 +25,8 @@ pub struct Asked<'a> {
     pub messages: Option<&'a str>,
     /// The most bytes of an input.
     pub most: u64,
+    /// Whether all errors of an input are said that the grammar recovers from.
+    pub all: bool,
     /// Which warnings are shown.
     pub shown: Categories,
     /// The form of what is said.
@@ -44,15 +46,48 @@ pub fn bytes_of<F: Files + AllocGlobal, R: Read>(
     }
 }
 
+/// An input that is rejected, and its bytes.
+type Rejected = (Input, Vec<u8>);
+
+/// Says what is wrong at each error of an input after the first one, as a parse reports them by the
+/// recovery that the grammar has. Of a tokens file of these bytes it says their places.
+pub fn add_further(
+    alloc: Global,
+    messaged: Messaged,
+    told: &mut Diagnostics,
+    (path, source): (&str, Option<&[u8]>),
+    input: &Input,
+) -> io::Result<Messaged> {
+    let (messaged, found) = messaged.reported(alloc, input)?;
+    let mut is_first = true;
+    for rejection in found {
+        let number = rejection.number;
+        let verdict = Verdict::Rejected(rejection);
+        let message = messaged.message(alloc, input, &verdict)?;
+        let message = message.as_ref().map(Vec::as_slice);
+        let spoken = messaged.language.spoken();
+        let one = verdict.diagnostic(alloc, spoken, path, input, message)?;
+        if let (false, Some(mut one)) = (is_first, one) {
+            if let Some(source) = source {
+                place(&mut one, (path, source), input, number);
+            }
+            told.add(one)?;
+        }
+        is_first = false;
+    }
+    Ok(messaged)
+}
+
 impl Asked<'_> {
-    /// What is said of an input, and the exit status where nothing else is said.
+    /// What is said of an input, the exit status where nothing else is said, and the input, where it
+    /// has further errors to be said.
     fn take<F: Files + AllocGlobal, R: Read>(
         self,
         rt: &F,
         stdin: &mut R,
         (messaged, told, defaults): (&Messaged, &mut Diagnostics, &mut Defaults),
         path: &str,
-    ) -> io::Result<(InputSheet, u8)> {
+    ) -> io::Result<(InputSheet, u8, Option<Rejected>)> {
         let (alloc, most) = (rt.alloc(), self.most);
         let file = Limited { path, most };
         let bytes = bytes_of(rt, stdin, file);
@@ -66,22 +101,23 @@ impl Asked<'_> {
             Ok(input) => input,
             Err(fault) => {
                 let status = fault.tell(rt, told, self.files.grammar, opened)?;
-                return Ok((InputSheet::new(alloc, path, "refused")?, status));
+                return Ok((InputSheet::new(alloc, path, "refused")?, status, None));
             }
         };
         let verdict = verdict_on(alloc, &opened.tables, &input.tokens)?;
         let message = messaged.message(alloc, &input, &verdict)?;
         let message = message.as_ref().map(Vec::as_slice);
-        let (source, spoken) = ((path, source.as_slice()), language.spoken());
         let late = defaults.late(alloc, &opened.tables, &verdict)?;
-        answer_of(
+        let (sheet, status) = answer_of(
             alloc,
             told,
-            spoken,
-            source,
+            language.spoken(),
+            (path, source.as_slice()),
             (&input, &verdict, late),
             message,
-        )
+        )?;
+        let goes_on = self.all && matches!(verdict, Verdict::Rejected(_));
+        Ok((sheet, status, goes_on.then_some((input, source))))
     }
 }
 
@@ -118,7 +154,7 @@ pub fn run_checking<F: Files + AllocGlobal, R: Read, W: Write>(
     let (alloc, most) = (rt.alloc(), asked.most);
     let mut told = Diagnostics::new(alloc);
     let messages = asked.messages.map(|path| Limited { path, most });
-    let messaged = match Messaged::open(rt, asked.files, messages, &mut told)? {
+    let mut messaged = match Messaged::open(rt, asked.files, messages, &mut told)? {
         Ok(messaged) => messaged,
         Err(status) => {
             told.judge(0, Severity::Error);
@@ -130,9 +166,13 @@ pub fn run_checking<F: Files + AllocGlobal, R: Read, W: Write>(
     let mut defaults = Defaults::new();
     for path in asked.inputs {
         let by = (&messaged, &mut told, &mut defaults);
-        let (sheet, ended) = asked.take(rt, stdin, by, path)?;
+        let (sheet, ended, rejected) = asked.take(rt, stdin, by, path)?;
         sheets.push(sheet).map_err(AllocError::from)?;
         status = ended.max(status);
+        if let Some((input, source)) = rejected {
+            let of = (*path, Some(source.as_slice()));
+            messaged = add_further(alloc, messaged, &mut told, of, &input)?;
+        }
     }
     let told = told.only(alloc, asked.shown)?;
     asked.put(alloc, &told, Some(&sheets), status, out)

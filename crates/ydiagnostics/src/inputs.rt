@@ -7,7 +7,7 @@ use std::alloc::Global;
 use std::io;
 use yexplain::reads::Made;
 use yfaults::opening::word_place;
-use yfiles::diagnostic::Diagnostics;
+use yfiles::diagnostic::{Diagnostic, Diagnostics};
 use yfiles::place::Place;
 use yinput::language::Input;
 use yinput::spelled::Spoken;
@@ -79,6 +79,15 @@ impl InputSheet {
     }
 }
 
+/// Says where the token of a rejection stands in a tokens file of these bytes; of a text that is said
+/// already.
+pub fn place(one: &mut Diagnostic, (path, source): (&str, &[u8]), input: &Input, number: usize) {
+    if input.text.is_none() {
+        let at = word_place(source, number).unwrap_or(source.len());
+        one.spot = Some(Place { path, source, at }.spot());
+    }
+}
+
 /// What is said of an input of these bytes, with where its error is detected late, a message for
 /// it, where there is one, and the exit status where nothing else is said.
 pub fn answer_of(
@@ -93,14 +102,13 @@ pub fn answer_of(
     let Some(mut one) = verdict.diagnostic(alloc, spoken, path, input, message)? else {
         return Ok((sheet, 0));
     };
-    if let (Verdict::Rejected(rejection), None) = (verdict, &input.text) {
-        let at = word_place(source, rejection.number).unwrap_or(source.len());
-        one.spot = Some(Place { path, source, at }.spot());
+    if let Verdict::Rejected(rejection) = verdict {
+        place(&mut one, (path, source), input, rejection.number);
     }
     if let Some(late) = &late {
         one.help(late.text(alloc)?)?;
     }
     sheet.late = late;
     told.add(one)?;
-    Ok((sheet, 1))
+    Ok((sheet, verdict.status()))
 }

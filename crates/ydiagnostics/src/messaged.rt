@@ -6,16 +6,24 @@ use std::rt::Files;
 use yfiles::diagnostic::Diagnostics;
 use yfiles::reading::Limited;
 use yinput::language::{Input, Language, LanguageFiles};
-use yinput::verdict::Verdict;
+use yinput::reported::reported_in;
+use yinput::verdict::{Rejection, Verdict};
 use ymessages::filling::filled;
 use ymessages::messages::Messages;
+use ysymbols::let_go;
 
 /// A language, and the messages for its errors, where there are some.
-#[derive(Drop)]
 pub struct Messaged {
     /// The language.
     pub language: Language,
     messages: Option<Messages>,
+}
+
+impl Drop for Messaged {
+    // A call in each owner, which keeps their proofs short.
+    fn drop(self) {
+        let_go!(self: Messaged { language, messages });
+    }
 }
 
 impl Messaged {
@@ -59,5 +67,13 @@ impl Messaged {
             Some(message) => filled(alloc, spoken, message, input, rejection).map(Some),
             None => Ok(None),
         }
+    }
+
+    /// All errors that a parse over an input of the language reports, by the recovery that the
+    /// grammar has.
+    pub fn reported(self, alloc: Global, input: &Input) -> io::Result<(Messaged, Vec<Rejection>)> {
+        let Messaged { language, messages } = self;
+        let (language, found) = reported_in(alloc, language, input)?;
+        Ok((Messaged { language, messages }, found))
     }
 }

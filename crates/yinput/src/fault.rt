@@ -40,14 +40,20 @@ pub enum What {
     Ungiven(Sym),
 }
 
-/// A file that isn't taken: what is wrong with it, and its bytes, as far as they were read.
+/// A file that isn't taken: all that is wrong with it, and its bytes, as far as they were read.
 #[derive(Drop)]
 pub struct Fault {
     path: String,
     most: u64,
     bytes: Vec<u8>,
-    what: What,
+    all: Vec<What>,
 }
+
+/// How many words of a file show whether it is a text.
+const FIRST_WORDS: usize = 3;
+
+/// What is said beside a word of a tokens file that names nothing.
+const NO_TEXT: &str = "the input is read as names of tokens; a text is read by --lex SPEC";
 
 /// The grammar of a language, its file, and where things stand in it, where that is known.
 #[derive(Clone, Copy)]
@@ -79,6 +85,23 @@ fn ungiven(alloc: Global, spec: &str, about: About<'_>, token: Sym) -> io::Resul
     Ok(one)
 }
 
+/// A fault of a tokens file of these bytes; that it isn't read as a text, where one of its first
+/// words names nothing.
+fn tokens_fault(
+    alloc: Global,
+    grammar: &Grammar,
+    file: (&str, &[u8]),
+    fault: TokenFault,
+) -> io::Result<Diagnostic> {
+    let mut one = file_fault(alloc, grammar, file, fault)?;
+    if let TokenFault::Unknown(place) | TokenFault::BadLiteral(place) = fault {
+        if place <= FIRST_WORDS {
+            one.note(alloc, NO_TEXT)?;
+        }
+    }
+    Ok(one)
+}
+
 /// What is said where no line of a SPEC matches a text.
 pub const UNMATCHED: &str = "no line of the SPEC matches here";
 
@@ -101,13 +124,20 @@ pub fn fault_at(alloc: Global, place: Place<'_>, what: &str) -> io::Result<Diagn
 impl Fault {
     /// What is wrong with a file of these bytes.
     pub fn new(alloc: Global, file: Limited<'_>, bytes: Vec<u8>, what: What) -> Made<Fault> {
+        let mut all = Vec::new(alloc);
+        all.push(what)?;
+        Fault::of_all(alloc, file, bytes, all)
+    }
+
+    /// All that is wrong with a file of these bytes, in the order in which it is told.
+    pub fn of_all(alloc: Global, file: Limited<'_>, bytes: Vec<u8>, all: Vec<What>) -> Made<Fault> {
         let Limited { path, most } = file;
         let path = format!(in alloc; "{path}")?;
         Ok(Fault {
             path,
             most,
             bytes,
-            what,
+            all,
         })
     }
 
@@ -129,8 +159,8 @@ impl Fault {
 
     /// The exit status of a run that ends with it.
     fn status(&self) -> u8 {
-        match self.what {
-            What::Unread => 3,
+        match self.all.first() {
+            Some(What::Unread) => 3,
             _ => 1,
         }
     }
@@ -155,14 +185,15 @@ impl Fault {
         Ok(one)
     }
 
-    /// What is wrong, with its place and the text there.
+    /// One thing that is wrong, with its place and the text there.
     fn diagnostic<F: Files + AllocGlobal>(
         &self,
         rt: &F,
         about: About<'_>,
+        what: What,
     ) -> io::Result<Diagnostic> {
         let (alloc, path, most) = (rt.alloc(), self.path.as_str(), self.most);
-        match self.what {
+        match what {
             What::Unread => {
                 let mut one = Diagnostic::new(alloc, Some(path), None)?;
                 one.say("cannot read it")?;
@@ -171,13 +202,26 @@ impl Fault {
             What::Long => Limited { path, most }.too_long(rt, true),
             What::LongSpec => Limited { path, most }.too_long(rt, false),
             What::Tokens(fault) => {
-                file_fault(alloc, about.grammar, (path, self.bytes.as_slice()), fault)
+                tokens_fault(alloc, about.grammar, (path, self.bytes.as_slice()), fault)
             }
             What::Unmatched(at) => fault_at(alloc, self.place(at), UNMATCHED),
             What::TooMany(at) => fault_at(alloc, self.place(at), TOO_MANY),
             What::Spec(at, wrong) => self.line_fault(alloc, at, wrong),
             What::Ungiven(token) => ungiven(alloc, path, about, token),
         }
+    }
+
+    /// Says all that is wrong, and gives the exit status.
+    fn tell_all<F: Files + AllocGlobal>(
+        &self,
+        rt: &F,
+        told: &mut Diagnostics,
+        about: About<'_>,
+    ) -> io::Result<u8> {
+        for what in &self.all {
+            told.add(self.diagnostic(rt, about, *what)?)?;
+        }
+        Ok(self.status())
     }
 
     /// Says what is wrong, and gives the exit status. The grammar of the language has these tables,
@@ -194,8 +238,7 @@ impl Fault {
             grammar: grammar_of(tables),
             lines: None,
         };
-        told.add(self.diagnostic(rt, about)?)?;
-        Ok(self.status())
+        self.tell_all(rt, told, about)
     }
 
     /// Says what is wrong, and gives the exit status. The grammar of the language is open, and this
@@ -212,8 +255,7 @@ impl Fault {
             grammar: grammar_of(&opened.tables),
             lines: Some(&opened.lines),
         };
-        told.add(self.diagnostic(rt, about)?)?;
-        Ok(self.status())
+        self.tell_all(rt, told, about)
     }
 
     /// Writes what is wrong for people, and gives the exit status.
@@ -230,18 +272,18 @@ impl Fault {
         Ok(status)
     }
 
-    /// Writes what is wrong as a plain line, and gives the exit status.
+    /// Writes what is wrong first as a plain line, and gives the exit status.
     pub fn put_plain<W: Write>(&self, out: &mut W) -> io::Result<u8> {
         let path = self.path.as_str();
-        let written = match self.what {
-            What::Unread => writeln!(out, "{path}: cannot read it"),
-            What::Tokens(fault) => writeln!(out, "{path}: {fault}"),
-            What::Unmatched(at) | What::TooMany(at) | What::Spec(at, _) => {
-                let spot = self.place(at).spot();
+        let written = match self.all.first() {
+            Some(What::Unread) | None => writeln!(out, "{path}: cannot read it"),
+            Some(What::Tokens(fault)) => writeln!(out, "{path}: {fault}"),
+            Some(What::Unmatched(at) | What::TooMany(at) | What::Spec(at, _)) => {
+                let spot = self.place(*at).spot();
                 writeln!(out, "{path}: refused at {spot}")
             }
-            What::Long | What::LongSpec => writeln!(out, "{path}: too long"),
-            What::Ungiven(_) => writeln!(out, "{path}: a token is missing"),
+            Some(What::Long | What::LongSpec) => writeln!(out, "{path}: too long"),
+            Some(What::Ungiven(_)) => writeln!(out, "{path}: a token is missing"),
         };
         written?;
         Ok(self.status())

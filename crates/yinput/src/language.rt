@@ -51,14 +51,14 @@ fn with_text(alloc: Global, lexed: Lexed, path: &str, bytes: Vec<u8>) -> io::Res
     let Lexed {
         tokens,
         places,
-        end,
+        ends,
     } = lexed;
     let path = format!(in alloc; "{path}")?;
     let text = Text {
         path,
         bytes,
         places,
-        end,
+        ends,
     };
     Ok(Input {
         tokens,

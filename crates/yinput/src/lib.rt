@@ -5,7 +5,8 @@
 //! and `language` both; a language reads inputs. `text` has the text that tokens were cut from,
 //! `fault` why there are none. `source` opens parses, and `parse` is one. `course` is a parse
 //! by states alone, `expected` has the tokens that can come over these, `verdict` what comes of an
-//! input, and `verdict_text` writes that for people and as plain lines.
+//! input, and `verdict_text` writes that for people and as plain lines. `reported` has all errors of an
+//! input that the grammar recovers from.
 #![tactic(auto)]
 
 mod course;
@@ -14,6 +15,7 @@ pub mod fault;
 pub mod grammars;
 pub mod language;
 mod parse;
+pub mod reported;
 pub mod source;
 pub mod spec;
 pub mod spelled;

@@ -3,31 +3,42 @@
 use crate::fault::{Fault, What};
 use crate::grammars::used_in;
 use std::alloc::Global;
-use std::io::{self, ErrorKind};
+use std::io;
 use std::rt::Files;
 use yexplain::reads::{Made, grammar_of};
 use yfiles::reading::{LONGEST_SPEC, Limited};
-use ylex::fault::SpecFault;
 use ylex::lexer::Lexer;
 use ylex::spec::{needs_line, read_spec};
-use ysymbols::{Grammar, Sym};
+use ysymbols::Grammar;
 use ytables::Tables;
 
-/// The first token of the grammar's rules that no line gives.
-fn ungiven(alloc: Global, grammar: &Grammar, lexer: &Lexer) -> Made<Option<Sym>> {
-    let used = used_in(alloc, grammar)?;
+/// The tokens of the grammar's rules that no line gives.
+fn ungiven(alloc: Global, grammar: &Grammar, lexer: &Lexer) -> Made<Vec<What>> {
+    let (used, mut found) = (used_in(alloc, grammar)?, Vec::new(alloc));
     for (token, is_used) in used.iter().enumerate() {
         if *is_used && lexer.named.get(token) != Some(&true) && needs_line(grammar, token) {
-            return Ok(Some(token));
+            found.push(What::Ungiven(token))?;
         }
     }
-    Ok(None)
+    Ok(found)
 }
 
-/// What cuts texts by a SPEC of these bytes.
-fn lexer_over(alloc: Global, grammar: &Grammar, bytes: &[u8]) -> Result<Lexer, SpecFault> {
-    let spec = read_spec(alloc, grammar, bytes)?;
-    Lexer::new(alloc, grammar, spec)
+/// What cuts texts by a SPEC of these bytes, and all that is wrong with it: with its lines, in their
+/// order, or where they are right the tokens that none of them gives.
+fn lexer_over(alloc: Global, grammar: &Grammar, bytes: &[u8]) -> Made<(Lexer, Vec<What>)> {
+    let mut faults = Vec::new(alloc);
+    let spec = read_spec(alloc, grammar, bytes, &mut faults)?;
+    let lexer = Lexer::new(alloc, grammar, spec, &mut faults)?;
+    if faults.is_empty() {
+        let missing = ungiven(alloc, grammar, &lexer)?;
+        return Ok((lexer, missing));
+    }
+    faults.sort_by_key(|fault| fault.0)?;
+    let mut all = Vec::new(alloc);
+    for (at, wrong) in &faults {
+        all.push(What::Spec(*at, *wrong))?;
+    }
+    Ok((lexer, all))
 }
 
 /// What cuts texts by the SPEC at a path, for these tables; or why there is none.
@@ -42,13 +53,9 @@ pub fn read_lexer<F: Files + AllocGlobal>(
         Ok(bytes) => bytes,
         Err(fault) => return Ok(Err(fault)),
     };
-    let what = match lexer_over(alloc, grammar, &bytes) {
-        Ok(lexer) => match ungiven(alloc, grammar, &lexer)? {
-            Some(token) => What::Ungiven(token),
-            None => return Ok(Ok(lexer)),
-        },
-        Err(SpecFault::At(at, wrong)) => What::Spec(at, wrong),
-        Err(SpecFault::Memory) => return Err(io::Error::from(ErrorKind::OutOfMemory)),
-    };
-    Ok(Err(Fault::new(alloc, file, bytes, what)?))
+    let (lexer, all) = lexer_over(alloc, grammar, &bytes)?;
+    if all.is_empty() {
+        return Ok(Ok(lexer));
+    }
+    Ok(Err(Fault::of_all(alloc, file, bytes, all)?))
 }

@@ -4,8 +4,12 @@
 use std::alloc::Global;
 use std::io::{self, Write};
 use yexplain::reads::{Made, name_of};
+use yexplain::text::Escaped;
 use ylalr::END;
 use ysymbols::{Grammar, Sym};
+
+/// The most bytes of a word that are shown.
+const MOST_OF_WORD: usize = 40;
 
 /// What people call a symbol of which nothing else is said, and whose name says little: the end,
 /// and the newline as a literal.
@@ -82,13 +86,35 @@ pub struct Spoken<'a> {
     pub spelled: Option<&'a Spelled>,
 }
 
-impl Spoken<'_> {
-    /// Writes what a symbol is called.
-    pub fn put<W: Write>(self, out: &mut W, symbol: Sym) -> io::Result<()> {
+impl<'a> Spoken<'a> {
+    /// What a symbol is called.
+    fn called(self, symbol: Sym) -> &'a [u8] {
         let called = match self.spelled {
             Some(spelled) => spelled.of(symbol),
             None => None,
         };
-        out.write_all(called.unwrap_or(name_of(self.grammar, symbol)))
+        called.unwrap_or(name_of(self.grammar, symbol))
+    }
+
+    /// Writes what a symbol is called.
+    pub fn put<W: Write>(self, out: &mut W, symbol: Sym) -> io::Result<()> {
+        out.write_all(self.called(symbol))
+    }
+
+    /// Writes a token that is this word of a text: what it is called, and the word, or one of them
+    /// where the other says no more.
+    pub fn put_met<W: Write>(self, out: &mut W, token: Sym, word: &[u8]) -> io::Result<()> {
+        let (name, called) = (name_of(self.grammar, token), self.called(token));
+        let inside = called.get(1..called.len().saturating_sub(1));
+        if word.is_empty() || name.first() == Some(&b'\'') || inside == Some(word) {
+            return out.write_all(called);
+        }
+        if called != name || !word.eq_ignore_ascii_case(name) {
+            out.write_all(called)?;
+            out.write_all(b" ")?;
+        }
+        let shown = Escaped(word.get(..MOST_OF_WORD).unwrap_or(word));
+        let dots = if word.len() > MOST_OF_WORD { ".." } else { "" };
+        write!(out, "'{shown}{dots}'")
     }
 }

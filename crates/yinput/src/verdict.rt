@@ -67,6 +67,18 @@ impl Rejection {
     }
 }
 
+impl Verdict {
+    /// The exit status of a run over one input: 0 where it is accepted, 1 where it is rejected, 4
+    /// where neither came within as many steps as are made.
+    pub fn status(&self) -> u8 {
+        match self {
+            Verdict::Accepted(_) => 0,
+            Verdict::Rejected(_) => 1,
+            Verdict::Undecided => 4,
+        }
+    }
+}
+
 /// The verdict on the tokens of an input of a language with these tables.
 pub fn verdict_on(alloc: Global, tables: &Tables, tokens: &Tokens) -> io::Result<Verdict> {
     if !tokens.fits(tables) {

@@ -54,7 +54,7 @@ impl Verdict {
         match self.diagnostic(alloc, spoken, path, input, message)? {
             Some(one) => {
                 one.put(out, "ydebug")?;
-                Ok(1)
+                Ok(self.status())
             }
             None => {
                 write!(out, "{path}: ")?;
@@ -88,7 +88,7 @@ impl Verdict {
             Verdict::Undecided => writeln!(out, "{path}: limit"),
         };
         written?;
-        Ok(u8::from(!matches!(self, Verdict::Accepted(_))))
+        Ok(self.status())
     }
 }
 
@@ -134,18 +134,20 @@ fn note_before(
 }
 
 impl Rejection {
-    /// Writes a message, where there is one, or that the token can't come, and which can.
+    /// Writes a message, where there is one, or that the token, which is this word of a text, can't
+    /// come, and which can.
     fn put_token<W: Write>(
         &self,
         out: &mut W,
         spoken: Spoken<'_>,
+        word: &[u8],
         message: Option<&[u8]>,
     ) -> io::Result<()> {
         if let Some(message) = message {
             return out.write_all(message);
         }
         write!(out, "unexpected ")?;
-        spoken.put(out, self.token)?;
+        spoken.put_met(out, self.token, word)?;
         let Wanted { can, unknown } = &self.wanted;
         if can.is_empty() && unknown.is_empty() {
             write!(out, "; no token can come")?;
@@ -170,7 +172,7 @@ impl Rejection {
     ) -> io::Result<()> {
         let number = self.number;
         write!(out, "rejected at token {number}: ")?;
-        self.put_token(out, spoken, message)
+        self.put_token(out, spoken, &[], message)
     }
 
     /// What is said of it: at its place in a text, with the line there, or of a tokens file with
@@ -186,7 +188,8 @@ impl Rejection {
         if let Some(text) = &input.text {
             let place = text.place(self.number);
             let mut one = Diagnostic::at(alloc, place, true)?;
-            self.put_token(&mut one.message, spoken, message)?;
+            let word = text.word(self.number);
+            self.put_token(&mut one.message, spoken, word, message)?;
             return Ok(one);
         }
         let mut one = Diagnostic::new(alloc, Some(path), None)?;

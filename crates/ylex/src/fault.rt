@@ -10,17 +10,37 @@ pub enum Wrong {
     Missing,
     Unknown,
     NoInput,
+    /// A keyword after `--upper` with a capital.
+    Capital,
     Expression(&'static str),
     Empty,
 }
 
-/// Why a SPEC isn't used: what is wrong at a place of it, or that there is no memory.
+/// Why something of a SPEC isn't used: what is wrong at a place of it, or that there is no memory.
 #[derive(Clone, Copy, Drop)]
 pub enum SpecFault {
     /// How many bytes stand before the place, and what is wrong there.
     At(usize, Wrong),
     /// Memory ran out.
     Memory,
+}
+
+/// All that is wrong with a SPEC: how many bytes stand before each place, and what is wrong there.
+pub type SpecFaults = Vec<(usize, Wrong)>;
+
+/// Keeps a fault with those of a SPEC, where it isn't that there is no memory.
+pub(crate) fn keep<T: Drop>(
+    faults: &mut SpecFaults,
+    made: Result<T, SpecFault>,
+) -> Result<Option<T>, AllocError> {
+    match made {
+        Ok(made) => Ok(Some(made)),
+        Err(SpecFault::Memory) => Err(AllocError),
+        Err(SpecFault::At(at, wrong)) => {
+            faults.push((at, wrong))?;
+            Ok(None)
+        }
+    }
 }
 
 impl From<AllocError> for SpecFault {
@@ -55,6 +75,7 @@ impl Wrong {
             Wrong::Missing => "nothing stands after the name",
             Wrong::Unknown => "no token of the grammar has this name",
             Wrong::NoInput => "an input has tokens alone, and neither error nor $end",
+            Wrong::Capital => "after --upper the words stand in small letters",
             Wrong::Expression(reason) => reason,
             Wrong::Empty => "the expression matches the empty text",
         }

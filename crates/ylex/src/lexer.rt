@@ -1,7 +1,7 @@
 //! Texts cut into tokens: at each place the longest match counts; of equal ones literals and words
 //! that stand for themselves before lines, and then the first line.
 
-use crate::fault::{SpecFault, TextFault, Wrong};
+use crate::fault::{SpecFault, SpecFaults, TextFault, Wrong, keep};
 use crate::spec::{Rule, Spec, Word};
 use crate::spelled::{Texts, plain_texts};
 use regex::Error;
@@ -24,8 +24,8 @@ pub struct Lexed {
     pub tokens: Tokens,
     /// How many bytes stand before each of them.
     pub places: Vec<usize>,
-    /// How many bytes stand before what follows the last one.
-    pub end: usize,
+    /// How many bytes stand before what follows each of them.
+    pub ends: Vec<usize>,
 }
 
 /// What stands at the front of a rest: how many bytes, and the token that they are, if any.
@@ -115,8 +115,13 @@ fn compiled(alloc: Global, rule: Rule<'_>) -> Result<Regex, SpecFault> {
 }
 
 impl Lexer {
-    /// What cuts texts by a SPEC; or the first expression that is refused.
-    pub fn new(alloc: Global, grammar: &Grammar, spec: Spec<'_>) -> Result<Lexer, SpecFault> {
+    /// What cuts texts by a SPEC, but for the expressions that are refused, which are kept.
+    pub fn new(
+        alloc: Global,
+        grammar: &Grammar,
+        spec: Spec<'_>,
+        faults: &mut SpecFaults,
+    ) -> Made<Lexer> {
         let plain = plain_texts(alloc, grammar, &spec)?;
         let Spec {
             rules,
@@ -128,13 +133,14 @@ impl Lexer {
         for value in 0..=255u8 {
             let literal = grammar.find_literal(value);
             let literal = literal.filter(|token| absent.get(*token) != Some(&true));
-            literals.push(literal).map_err(AllocError::from)?;
+            literals.push(literal)?;
         }
         let (mut tokens, mut regexes) = (Vec::new(alloc), Vec::new(alloc));
         for rule in &rules {
-            let regex = compiled(alloc, *rule)?;
-            regexes.push(regex).map_err(AllocError::from)?;
-            tokens.push(rule.token).map_err(AllocError::from)?;
+            if let Some(regex) = keep(faults, compiled(alloc, *rule))? {
+                regexes.push(regex).map_err(AllocError::from)?;
+                tokens.push(rule.token)?;
+            }
         }
         Ok(Lexer {
             words,
@@ -180,7 +186,7 @@ impl Lexer {
                 symbols: Vec::new(alloc),
             },
             places: Vec::new(alloc),
-            end: 0,
+            ends: Vec::new(alloc),
         };
         let mut at = 0;
         for _ in 0..bytes.len() {
@@ -237,7 +243,7 @@ impl Cutting<'_> {
             let Some(front) = rest.get(..text.len()) else {
                 continue;
             };
-            if front == text || word.folded && front.eq_ignore_ascii_case(text) {
+            if word.is(text, front) {
                 found = found.or(text.len(), Some(word.token));
             }
         }
@@ -258,7 +264,7 @@ impl Lexed {
         }
         self.tokens.symbols.push(token).map_err(AllocError::from)?;
         self.places.push(at).map_err(AllocError::from)?;
-        self.end = end;
+        self.ends.push(end).map_err(AllocError::from)?;
         Ok(())
     }
 }

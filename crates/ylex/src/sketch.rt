@@ -10,7 +10,7 @@ use ysymbols::{Grammar, Sym};
 const SOME_WORDS: usize = 8;
 
 /// Expressions for tokens by their names.
-const GUESSES: [(&str, &str); 13] = [
+const GUESSES: [(&str, &str); 11] = [
     ("INT INTEGER", "[0-9]+"),
     ("NUM NUMBER", "[0-9]+(\\.[0-9]+)?"),
     ("FLOAT", "[0-9]+\\.[0-9]+"),
@@ -20,9 +20,7 @@ const GUESSES: [(&str, &str); 13] = [
     ("NEWLINE NL", "\\n+"),
     ("LE", "<="),
     ("GE", ">="),
-    ("EQ", "=="),
     ("NE", "!="),
-    ("ASSIGN", "="),
     ("ARROW", "->"),
 ];
 
@@ -60,18 +58,25 @@ fn is_of(grammar: &Grammar, used: &[bool], token: Sym, kind: Kind) -> bool {
     used.get(token) == Some(&true) && needs_line(grammar, token) && own == kind
 }
 
-/// Writes the keywords.
+/// Writes what may be keywords, as lines that count once their first byte is taken away.
 fn put_keywords<W: Write>(out: &mut W, grammar: &Grammar, used: &[bool]) -> io::Result<()> {
     let mut count: usize = 0;
     for token in 0..grammar.symbols() {
         if is_of(grammar, used, token, Kind::Keyword) {
-            let name = Name(grammar, token);
-            let front = match (count, count % SOME_WORDS) {
-                (0, _) => "%keywords -i",
-                (_, 0) => "\n%keywords -i",
-                _ => "",
-            };
-            write!(out, "{front} {name}")?;
+            if count == 0 {
+                writeln!(
+                    out,
+                    "# Where these are keywords, take # away; -i for --upper: in any case."
+                )?;
+            }
+            if count % SOME_WORDS == 0 {
+                let end = if count == 0 { "" } else { "\n" };
+                write!(out, "{end}# %keywords --upper")?;
+            }
+            out.write_all(b" ")?;
+            for b in name_of(grammar, token) {
+                out.write_all(&[b.to_ascii_lowercase()])?;
+            }
             count = count.saturating_add(1);
         }
     }
@@ -93,9 +98,9 @@ fn put_kind<W: Write>(out: &mut W, grammar: &Grammar, used: &[bool], kind: Kind)
     Ok(())
 }
 
-/// Writes a SPEC for a grammar: its literals, keywords guessed from names in capitals, lines for
-/// names that say how their token looks, and a place to fill in for each other token. `used` says
-/// which symbols stand in a rule.
+/// Writes a SPEC for a grammar: its literals, names in capitals that may be keywords, lines for names
+/// that say how their token looks, and a place to fill in for each other token. `used` says which
+/// symbols stand in a rule.
 pub fn put_sketch<W: Write>(out: &mut W, grammar: &Grammar, used: &[bool]) -> io::Result<()> {
     let mut is_first = true;
     for value in 0..=255u8 {

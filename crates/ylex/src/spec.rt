@@ -1,9 +1,9 @@
 //! The lines of a SPEC.
 
-use crate::fault::{SpecFault, Wrong};
+use crate::fault::{SpecFault, SpecFaults, Wrong, keep};
 use std::alloc::{AllocError, Global};
 use std::str;
-use yexplain::reads::{name_of, set};
+use yexplain::reads::{Made, name_of, set};
 use ylexemes::bytes::is_blank;
 use ysymbols::{Grammar, Sym};
 use ytokens::token_words::{Front, front_of};
@@ -20,13 +20,38 @@ pub struct Rule<'a> {
     pub at: usize,
 }
 
-/// A token that stands for itself as the grammar spells it.
+/// How a word stands in a text.
+#[derive(Clone, Copy, Drop, PartialEq, Eq)]
+pub enum Case {
+    /// As the grammar spells it.
+    Same,
+    /// In small and large letters, as one likes.
+    Any,
+    /// In small letters.
+    Small,
+}
+
+/// A token that stands for itself as the grammar spells it, but for the case of its letters.
 #[derive(Clone, Copy, Drop)]
 pub struct Word {
     /// The token.
     pub token: Sym,
-    /// Whether it counts in any case.
-    pub folded: bool,
+    /// The case in which it counts.
+    pub case: Case,
+}
+
+impl Word {
+    /// Whether these bytes, of which there are as many as the token's name has, are the word.
+    pub(crate) fn is(self, name: &[u8], bytes: &[u8]) -> bool {
+        match self.case {
+            Case::Same => bytes == name,
+            Case::Any => bytes.eq_ignore_ascii_case(name),
+            Case::Small => {
+                let has_capital = bytes.iter().any(|b| b.is_ascii_uppercase());
+                !has_capital && bytes.eq_ignore_ascii_case(name)
+            }
+        }
+    }
 }
 
 /// What a SPEC says.
@@ -45,8 +70,7 @@ pub struct Spec<'a> {
 /// What names after a directive are.
 #[derive(Clone, Copy, PartialEq, Eq)]
 enum Listed {
-    Words,
-    FoldedWords,
+    Words(Case),
     /// Given by no line.
     Absent,
 }
@@ -102,6 +126,33 @@ fn token_of(grammar: &Grammar, piece: Piece<'_>) -> Result<Sym, SpecFault> {
     }
 }
 
+/// The token whose name in capitals is the word at the front of a piece.
+fn upper_token_of(alloc: Global, grammar: &Grammar, piece: Piece<'_>) -> Result<Sym, SpecFault> {
+    let word = piece.first(piece.plain_word());
+    let mut name = Vec::from_slice(alloc, word)?;
+    for b in name.iter_mut() {
+        if b.is_ascii_uppercase() {
+            return Err(SpecFault::At(piece.at, Wrong::Capital));
+        }
+        *b = b.to_ascii_uppercase();
+    }
+    match grammar.find(&name) {
+        Some(token) if is_input(grammar, token) => Ok(token),
+        Some(_) => Err(SpecFault::At(piece.at, Wrong::NoInput)),
+        None => Err(SpecFault::At(piece.at, Wrong::Unknown)),
+    }
+}
+
+/// How the words after `%keywords` stand in a text, and these words.
+fn case_of(rest: Piece<'_>) -> (Case, Piece<'_>) {
+    let length = rest.plain_word();
+    match rest.first(length) {
+        b"-i" => (Case::Any, rest.after(length)),
+        b"--upper" => (Case::Small, rest.after(length)),
+        _ => (Case::Same, rest),
+    }
+}
+
 impl<'a> Spec<'a> {
     /// Adds a line with an expression.
     fn add_rule(&mut self, token: Option<Sym>, rest: Piece<'a>) -> Result<(), SpecFault> {
@@ -121,12 +172,38 @@ impl<'a> Spec<'a> {
         Ok(())
     }
 
-    /// Adds the names that a piece lists. A literal stands for itself without it.
+    /// Adds the name at the front of a piece. A literal stands for itself without it.
+    fn add_name(
+        &mut self,
+        alloc: Global,
+        grammar: &Grammar,
+        name: Piece<'_>,
+        listed: Listed,
+    ) -> Result<(), SpecFault> {
+        let token = match listed {
+            Listed::Words(Case::Small) => upper_token_of(alloc, grammar, name)?,
+            _ => token_of(grammar, name)?,
+        };
+        set(&mut self.named, token, true);
+        match listed {
+            Listed::Absent => set(&mut self.absent, token, true),
+            Listed::Words(case) if needs_line(grammar, token) => {
+                let word = Word { token, case };
+                self.words.push(word).map_err(AllocError::from)?;
+            }
+            Listed::Words(_) => {}
+        }
+        Ok(())
+    }
+
+    /// Adds the names that a piece lists, and keeps those that are wrong.
     fn add_names(
         &mut self,
+        alloc: Global,
         grammar: &Grammar,
         names: Piece<'_>,
         listed: Listed,
+        faults: &mut SpecFaults,
     ) -> Result<(), SpecFault> {
         if names.bytes.is_empty() {
             return Err(SpecFault::At(names.at, Wrong::Missing));
@@ -136,32 +213,30 @@ impl<'a> Spec<'a> {
             if left.bytes.is_empty() {
                 break;
             }
-            let token = token_of(grammar, left)?;
-            set(&mut self.named, token, true);
-            if listed == Listed::Absent {
-                set(&mut self.absent, token, true);
-            } else if needs_line(grammar, token) {
-                let folded = listed == Listed::FoldedWords;
-                let word = Word { token, folded };
-                self.words.push(word).map_err(AllocError::from)?;
-            }
+            keep(faults, self.add_name(alloc, grammar, left, listed))?;
             left = left.after(left.word());
         }
         Ok(())
     }
 
-    /// Adds a line.
-    fn add_line(&mut self, grammar: &Grammar, line: Piece<'a>) -> Result<(), SpecFault> {
+    /// Adds a line; of several names all that are wrong are kept.
+    fn add_line(
+        &mut self,
+        alloc: Global,
+        grammar: &Grammar,
+        line: Piece<'a>,
+        faults: &mut SpecFaults,
+    ) -> Result<(), SpecFault> {
         let length = line.plain_word();
         let rest = line.after(length);
         match line.first(length) {
             [] | [b'#', ..] => Ok(()),
             b"%skip" => self.add_rule(None, rest),
-            b"%keywords" if rest.first(rest.plain_word()) == b"-i".as_slice() => {
-                self.add_names(grammar, rest.after(2), Listed::FoldedWords)
+            b"%keywords" => {
+                let (case, words) = case_of(rest);
+                self.add_names(alloc, grammar, words, Listed::Words(case), faults)
             }
-            b"%keywords" => self.add_names(grammar, rest, Listed::Words),
-            b"%none" => self.add_names(grammar, rest, Listed::Absent),
+            b"%none" => self.add_names(alloc, grammar, rest, Listed::Absent, faults),
             [b'%', ..] => Err(SpecFault::At(line.at, Wrong::Directive)),
             _ => {
                 let token = token_of(grammar, line)?;
@@ -172,12 +247,13 @@ impl<'a> Spec<'a> {
     }
 }
 
-/// What a SPEC says, or the first line that is wrong.
+/// What a SPEC says; what is wrong with its lines is kept, in their order.
 pub fn read_spec<'a>(
     alloc: Global,
     grammar: &Grammar,
     source: &'a [u8],
-) -> Result<Spec<'a>, SpecFault> {
+    faults: &mut SpecFaults,
+) -> Made<Spec<'a>> {
     let mut spec = Spec {
         rules: Vec::new(alloc),
         words: Vec::new(alloc),
@@ -189,7 +265,9 @@ pub fn read_spec<'a>(
         let last = bytes.iter().rposition(|b| !is_blank(*b));
         let end = last.map_or(0, |at| at.saturating_add(1));
         let line = bytes.get(..end).unwrap_or(&[]);
-        spec.add_line(grammar, Piece { bytes: line, at }.after(0))?;
+        let line = Piece { bytes: line, at }.after(0);
+        let added = spec.add_line(alloc, grammar, line, faults);
+        keep(faults, added)?;
         at = at.saturating_add(bytes.len()).saturating_add(1);
     }
     Ok(spec)

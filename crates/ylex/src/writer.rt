@@ -4,6 +4,7 @@
 use crate::fault::TextFault;
 use crate::lexer::Lexer;
 use crate::sample::{Taste, sample_of};
+use crate::spec::Case;
 use crate::spelled::tree_of;
 use regex::bytes::Regex;
 use regex_hir::Hir;
@@ -93,10 +94,14 @@ impl Trial<'_> {
             return Vec::from_slice(self.alloc, &[byte]).map(Some);
         }
         let mut words = self.lexer.words.iter();
-        match words.find(|word| word.token == token) {
-            Some(_) => Vec::from_slice(self.alloc, name_of(self.grammar, token)).map(Some),
-            None => Ok(None),
+        let Some(word) = words.find(|word| word.token == token) else {
+            return Ok(None);
+        };
+        let mut text = Vec::from_slice(self.alloc, name_of(self.grammar, token))?;
+        if word.case == Case::Small {
+            text.make_ascii_lowercase();
         }
+        Ok(Some(text))
     }
 
     /// The text of a token, where one is found: its own, or one of a line that gives it.
