@@ -3,7 +3,8 @@
     keys [ydebug=PATH]
 
 It takes tmux and rlwrap. What it types: moves, words that are completed, an earlier line,
-interrupts at the prompt and in what takes long, the end of input over edits that are in no file.
+interrupts at the prompt and in what takes long, more than a screen, the end of input over edits that
+are in no file.
 Each has a text that the screen must then show. The last line is `N passed, M failed`.
 """
 import os
@@ -44,12 +45,12 @@ TYPED = [
 class Room:
     """A terminal with the script in it."""
 
-    def __init__(self, where, columns, environment, words):
+    def __init__(self, where, columns, environment, words, rows=50):
         self.name = f"keys{os.getpid()}"
         told = " ".join(f"{name}={shlex.quote(it)}" for name, it in environment.items())
         line = f"trap : INT; {told} {shlex.join(words)}; echo status $?; sleep 99"
         self.ask("kill-server")
-        self.ask("new-session", "-d", "-x", str(columns), "-y", "50", "-c", str(where), line)
+        self.ask("new-session", "-d", "-x", str(columns), "-y", str(rows), "-c", str(where), line)
 
     def ask(self, *words):
         """What tmux says."""
@@ -113,7 +114,7 @@ def look_at_width(tally, environment, columns):
         made = (Path(where) / "made").read_text() if (Path(where) / "made").exists() else ""
         tally.hold(f"{columns}: what is saved", made.startswith("IF '(' '(' ID ')' ID '<'"), made)
         room.close()
-        room = Room(where, columns, environment, words_of(where))
+        room = Room(where, columns, environment, [*words_of(where), "--more=never"])
         room.shows("type help")
         room.type(["help", "Enter"])
         room.shows("An empty line")
@@ -121,6 +122,27 @@ def look_at_width(tally, environment, columns):
         lines = [line.rstrip() for line in joined.splitlines()]
         held = [line.rstrip() for line in plain.splitlines()] == lines
         tally.hold(f"{columns}: help breaks at words", held, plain)
+        room.close()
+
+
+def look_at_screens(tally, environment):
+    """Lets a command write more than a screen, and goes on."""
+    with tempfile.TemporaryDirectory() as where:
+        folder_of("examples/statements", where)
+        room = Room(where, 80, environment, words_of(where), rows=16)
+        room.shows("type help")
+        room.type(["help", "Enter"])
+        tally.hold("it stops at a screen", room.shows("lines more: an empty line"), room.screen())
+        shown = room.screen()
+        tally.hold("the first line is there", "step [N]" in shown, shown)
+        room.clear()
+        room.type(["Enter"])
+        tally.hold("an empty line goes on", room.shows("lines more: an empty line"), room.screen())
+        tally.hold("with what comes next", "step [N]" not in room.screen(), room.screen())
+        room.clear()
+        room.type(["step", "Enter"])
+        shows = room.shows("1  shift") and "more:" not in room.screen()
+        tally.hold("another line is a command", shows, room.screen())
         room.close()
 
 
@@ -174,6 +196,7 @@ def main(words):
         environment = {"YDEBUG_PROGRAM": program, "XDG_STATE_HOME": state, "NO_COLOR": "1"}
         for columns in WIDTHS:
             look_at_width(tally, environment, columns)
+        look_at_screens(tally, environment)
         look_at_run(tally, environment)
         look_without(tally, environment)
     return tally.end()

@@ -32,6 +32,8 @@ pub struct SessionAsked<'a> {
     pub script: Option<&'a str>,
     /// The path of a journal.
     pub journal: Option<&'a str>,
+    /// Whether what is written stops at the end of a screen.
+    pub stops: bool,
 }
 
 /// What words ask for.
@@ -103,6 +105,7 @@ fn check_in<'m>(matches: &'m ArgMatches<'_>) -> Result<Asked<'m>, Refused> {
             inputs: matches.get_strs("tokens").unwrap_or(&[]),
             messages: matches.get_str("messages"),
             most: most_of(matches)?,
+            all: is_given(matches, "all"),
             shown: choice_in(matches)?.shown,
             format: format.unwrap_or(Format::Text),
         },
@@ -113,6 +116,9 @@ fn check_in<'m>(matches: &'m ArgMatches<'_>) -> Result<Asked<'m>, Refused> {
         None => Err(Refused::Wrong(NO_FORM)),
         Some(Format::Gcc | Format::Json) if asked.plain || asked.choice => {
             Err(Refused::Wrong("--choice and --plain want --format text"))
+        }
+        Some(_) if asked.plain && asked.inputs.all => {
+            Err(Refused::Wrong("--plain and --all don't go together"))
         }
         Some(_) => Ok(Asked::Check(asked)),
     }
@@ -199,7 +205,13 @@ fn page_of<'m>(matches: &'m ArgMatches<'_>) -> Result<Asked<'m>, Refused> {
 pub fn asked_in<'m>(form: Form, matches: &'m ArgMatches<'_>) -> Result<Asked<'m>, Refused> {
     match form {
         Form::Debug => {
+            let stops = match matches.get_str("more") {
+                None | Some("screen") => true,
+                Some("never") => false,
+                Some(_) => return Err(Refused::Wrong("--more takes screen or never")),
+            };
             let asked = SessionAsked {
+                stops,
                 files: language_in(matches)?,
                 input: input_in(matches)?,
                 script: matches.get_str("script"),

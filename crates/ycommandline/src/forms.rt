@@ -175,6 +175,11 @@ const DEBUG: &[Argument] = &[
         Way::Value("FILE"),
         "Goes on where this file says, and keeps in it where the session is",
     ),
+    (
+        "more",
+        Way::Value("WHEN"),
+        "screen: what is written stops at the end of a screen, if LINES says how many lines it has; never: it doesn't",
+    ),
     LIMIT,
     DIALECT,
 ];
@@ -237,6 +242,11 @@ const CHECK: &[Argument] = &[
     LIMIT,
     DIALECT,
     MESSAGES,
+    (
+        "all",
+        Way::Flag,
+        "Says all errors of an input, by the grammar's own recovery",
+    ),
     (
         "choice",
         Way::Flag,

@@ -88,7 +88,10 @@ impl<F: Files + AllocGlobal + Clone + Drop, R: Read + Drop, E: Write> Given<'_, 
         match source.open(&mut self.errors)? {
             Ok(parse) => {
                 let beginning = beginning_of(&script, asked.journal);
-                let (setting, reader) = (self.setting, &mut self.input);
+                let (mut setting, reader) = (self.setting, &mut self.input);
+                if !asked.stops {
+                    setting.lines = None;
+                }
                 debug(&source, setting, parse, beginning, reader, out)?;
                 Ok(0)
             }

@@ -52,6 +52,14 @@ fn columns_of(rt: &HostRuntime, is_terminal: bool) -> Option<usize> {
     }
 }
 
+/// How many lines a screen has: those that the environment says, from 5 on.
+fn lines_of(rt: &HostRuntime) -> Option<usize> {
+    match env::var(rt, "LINES") {
+        Ok(value) => value.parse::<usize>().ok().filter(|lines| *lines >= 5),
+        Err(_) => None,
+    }
+}
+
 /// Where a session takes place.
 fn setting_of(rt: &HostRuntime) -> Setting {
     let shown = rt.stdout().is_terminal();
@@ -59,6 +67,7 @@ fn setting_of(rt: &HostRuntime) -> Setting {
         terminal: shown && rt.stdin().is_terminal(),
         colour: shown && !is_set(rt, "NO_COLOR") && !is_dumb(rt),
         columns: columns_of(rt, shown),
+        lines: lines_of(rt),
     }
 }
 

@@ -10,6 +10,7 @@ use crate::lines::{Came, LONGEST, next_line};
 use crate::moves::make_move;
 use crate::refusal::{Refusal, misused, put_refusal};
 use crate::reload::reload;
+use crate::screen::{Screen, Size};
 use crate::text::{list, put_ahead, put_upcoming};
 use crate::travel::{LAST, Move, condition_at_fault, move_of, name_at_fault};
 use crate::verb::Verb;
@@ -36,6 +37,8 @@ pub struct Setting {
     pub colour: bool,
     /// How many columns a line for people has, where longer ones are to be broken at words.
     pub columns: Option<usize>,
+    /// How many lines a screen has, where what is written is to stop at its end.
+    pub lines: Option<usize>,
 }
 
 /// What a session begins with.
@@ -62,7 +65,7 @@ struct Desk<'a, F, W> {
     source: &'a Source<'a, F>,
     setting: Setting,
     parse: Parse,
-    page: Page<W>,
+    page: Page<Screen<W>>,
     last: Option<Move>,
     breaks: Breaks,
     /// The path of its journal.
@@ -73,7 +76,7 @@ struct Desk<'a, F, W> {
 
 impl<F: Files + AllocGlobal, W: Write> Desk<'_, F, W> {
     /// The parse to be looked at.
-    fn view(&mut self) -> View<'_, W> {
+    fn view(&mut self) -> View<'_, Screen<W>> {
         View {
             alloc: self.source.rt.alloc(),
             parse: &self.parse,
@@ -183,6 +186,7 @@ impl<F: Files + AllocGlobal, W: Write> Desk<'_, F, W> {
             Verb::Stack => put_stack(page, &parse.session),
             Verb::Upcoming => put_upcoming(page, parse),
             Verb::Expected => return self.view().show_expected(),
+            Verb::Explain => return self.view().show_position(),
             Verb::Grammar => put_grammar(page, parse.session.tables(), &parse.lines),
             Verb::Conflicts => return self.view().show_conflicts(),
             Verb::Breaks => self.breaks.put(page, &parse.session),
@@ -278,8 +282,35 @@ impl<F: Files + AllocGlobal, W: Write> Desk<'_, F, W> {
             return Flow::Ends;
         }
         self.unsaved = false;
-        self.page.line("The edits are in no file: save FILE writes the tokens, quit ends.");
+        self.page.line("The edits are in no file: save FILE writes the input, quit ends.");
         Flow::GoesOn
+    }
+
+    /// Asks a person at a terminal for a line, after how many lines wait for a further screen.
+    fn ask(&mut self) {
+        let waiting = self.page.writer().waiting();
+        self.page.writer().end();
+        if waiting > 0 {
+            let lines = if waiting == 1 { "line" } else { "lines" };
+            let _ = writeln!(
+                self.page,
+                "-- {waiting} {lines} more: an empty line shows them --"
+            );
+        }
+        self.page.painted(Paint::Strong, "(ydebug) ");
+    }
+
+    /// Begins the screen for what a line is answered with. Where it is empty and lines wait, these
+    /// are the answer, which is given, and said to be.
+    fn begin_screen(&mut self, is_empty: bool) -> io::Result<bool> {
+        let (alloc, screen) = (self.source.rt.alloc(), self.page.writer());
+        let goes_on = is_empty && screen.waiting() > 0;
+        if goes_on {
+            screen.go_on(alloc)?;
+        } else {
+            screen.begin();
+        }
+        Ok(goes_on)
     }
 
     /// Asks for a line where a person sits at a terminal, reads it and answers it.
@@ -289,12 +320,18 @@ impl<F: Files + AllocGlobal, W: Write> Desk<'_, F, W> {
             let _ = keep(self.source.rt, path, &self.parse, &self.breaks);
         }
         if self.setting.terminal {
-            self.page.painted(Paint::Strong, "(ydebug) ");
+            self.ask();
         }
         self.page.flush()?;
         let came = next_line(reader, line)?;
         if came != Came::End {
             self.page.column = 0;
+        }
+        if self.setting.terminal && came != Came::End {
+            let is_empty = came == Came::Line && line.trim_ascii().is_empty();
+            if self.begin_screen(is_empty)? {
+                return Ok(Flow::GoesOn);
+            }
         }
         match came {
             Came::End => {
@@ -376,11 +413,16 @@ pub fn debug<F: Files + AllocGlobal, R: Read + Drop, W: Write + Drop>(
         goes_on = resume(source.rt, path, &mut parse, &mut breaks)?;
         journal = Some(String::from_str(alloc, path)?);
     }
+    let size = setting.lines.map(|lines| Size {
+        lines,
+        columns: setting.columns.unwrap_or(usize::MAX),
+    });
+    let screen = Screen::new(alloc, writer, size);
     let mut desk = Desk {
         source,
         setting,
         parse,
-        page: Page::new(writer, setting.colour),
+        page: Page::new(screen, setting.colour),
         last: None,
         breaks,
         journal,

@@ -2,7 +2,9 @@
 
 use crate::history::put_tokens;
 use crate::refusal::{Refusal, edit_words};
+use crate::saving::edited_text;
 use crate::views::View;
+use crate::words::first_word;
 use std::alloc::Global;
 use std::io::{self, ErrorKind, Write};
 use std::rt::Files;
@@ -81,22 +83,32 @@ pub fn insert<W: Write>(
     Ok(())
 }
 
-/// Writes the tokens, edits included, to a tokens file. Without `over` there must be no such file.
-fn save_tokens<F: Files + AllocGlobal>(
-    rt: &F,
+/// Writes the input, edits included, to a file: a text as one, unless its tokens are asked for.
+/// Without `over` there must be no such file. Whether a text was found for it.
+fn save_input<F: Files + AllocGlobal>(
+    source: &Source<'_, F>,
     parse: &Parse,
-    path: &str,
+    (path, as_tokens): (&str, bool),
     over: bool,
-) -> io::Result<()> {
-    let mut page = Page::new(Vec::new(rt.alloc()), false);
-    put_tokens(&mut page, parse);
-    page.checked()?;
-    let text = page.into_out();
-    if over {
-        write_over(rt, path, &text)
+) -> io::Result<bool> {
+    let rt = source.rt;
+    let text = if as_tokens || parse.text.is_none() {
+        let mut page = Page::new(Vec::new(rt.alloc()), false);
+        put_tokens(&mut page, parse);
+        page.checked()?;
+        page.into_out()
     } else {
-        write_new(rt, path, &text)
+        match edited_text(source, parse)? {
+            Some(text) => text,
+            None => return Ok(false),
+        }
+    };
+    if over {
+        write_over(rt, path, &text)?;
+    } else {
+        write_new(rt, path, &text)?;
     }
+    Ok(true)
 }
 
 /// Writes the whole input with its edits to a file that isn't guarded, and says so, or why not.
@@ -105,20 +117,27 @@ pub fn save<F: Files + AllocGlobal, W: Write>(
     source: &Source<'_, F>,
     parse: &Parse,
     page: &mut Page<W>,
-    path: &str,
+    words: &str,
     over: bool,
 ) -> bool {
+    let (path, as_tokens) = match first_word(words) {
+        ("--tokens", path) if !path.is_empty() => (path, true),
+        _ => (words, false),
+    };
     let saved = match source.guards(path) {
         Ok(true) => {
             let _ = writeln!(page, "{path} is an input, and isn't written over.");
             return false;
         }
-        Ok(false) => save_tokens(source.rt, parse, path, over),
+        Ok(false) => save_input(source, parse, (path, as_tokens), over),
         Err(error) => Err(error),
     };
-    let is_saved = saved.is_ok();
+    let is_saved = matches!(saved, Ok(true));
     let words = match saved {
-        Ok(()) => " has the tokens, edits included.",
+        Ok(true) if as_tokens || parse.text.is_none() => " has the tokens, edits included.",
+        Ok(true) => " has the text, edits included.",
+        Ok(false) =>
+            " isn't written: no text is known for these tokens; save --tokens FILE writes their names.",
         Err(error) => match error.kind() {
             ErrorKind::AlreadyExists => " is there already; save! writes over it.",
             ErrorKind::OutOfMemory => " isn't written: there is no memory.",

@@ -112,9 +112,9 @@ pub fn show_help<W: Write>(alloc: Global, page: &mut Page<W>, text: &str) -> Mad
             }
             page.line("A beginning of a word is enough where no other word begins so;");
             page.line(
-                "s, b, r and w are step, back, run and where; n, c, l and bt are next, continue,",
+                "s, b, r, w and e are step, back, run, where and expected; n, c, l and bt are next,",
             );
-            page.line("list and stack.");
+            page.line("continue, list and stack.");
             page.line("An empty line repeats the last move.");
         }
         Found::One(verb) => {

@@ -11,6 +11,7 @@ use yinput::text::Text;
 use yview::page::Page;
 use yview::place_view::{MANY, put_more};
 use yview::reading::{name_of, upcoming_token};
+use yview::tree_text::{Words, put_word};
 
 /// How many lines are listed before the middle one, and after it.
 const AROUND: usize = 5;
@@ -35,21 +36,37 @@ pub fn put_ahead<W: Write>(page: &mut Page<W>, parse: &Parse) {
     let _ = place.put_text(page, true);
 }
 
-/// An upcoming token: its place, or that it was inserted, and its name; its line and column too,
+/// The words of the text that the tokens of a parse were read from; none where there is no text.
+pub fn words_of(parse: &Parse) -> Words<'_> {
+    match &parse.text {
+        Some(text) => Words {
+            bytes: &text.bytes,
+            places: &text.places,
+            ends: &text.ends,
+        },
+        None => Words {
+            bytes: &[],
+            places: &[],
+            ends: &[],
+        },
+    }
+}
+
+/// An upcoming token: its number, or that it was inserted, and its name; its word and place too,
 /// where it was read from a text.
 fn put_token<W: Write>(page: &mut Page<W>, parse: &Parse, spots: &mut Spots<'_>, index: usize) {
     let (token, number) = upcoming_token(&parse.session, index);
+    let name = name_of(grammar_of(parse.session.tables()), token);
     if number == 0 {
-        page.put("      +");
+        page.put("      +  ");
+        page.put(name);
     } else {
         page.number_to(7, number);
-    }
-    page.put("  ");
-    page.put(name_of(grammar_of(parse.session.tables()), token));
-    if let (true, Some(text)) = (number > 0, &parse.text) {
-        let (line, column) = spots.reach(text.at(number));
-        page.tab(40);
-        let _ = write!(page, "{line}:{column}");
+        page.put("  ");
+        match &parse.text {
+            Some(_) => put_word(page, name, words_of(parse), spots, number),
+            None => page.put(name),
+        }
     }
     page.end();
 }
@@ -60,11 +77,7 @@ pub fn put_upcoming<W: Write>(page: &mut Page<W>, parse: &Parse) {
     if count == 0 {
         page.line("There is no upcoming token.");
     }
-    let bytes = match &parse.text {
-        Some(text) => text.bytes.as_slice(),
-        None => &[],
-    };
-    let mut spots = Spots::new(bytes);
+    let mut spots = Spots::new(words_of(parse).bytes);
     for index in 0..count.min(MANY) {
         put_token(page, parse, &mut spots, index);
     }

@@ -19,6 +19,7 @@ pub enum Verb {
     List,
     State,
     Expected,
+    Explain,
     Why,
     Rule,
     Symbol,
@@ -38,7 +39,7 @@ pub enum Verb {
 }
 
 /// Each command by its word, in the order in which help lists them.
-pub const VERBS: [(&str, Verb); 32] = [
+pub const VERBS: [(&str, Verb); 33] = [
     ("step", Verb::Step),
     ("back", Verb::Back),
     ("to", Verb::To),
@@ -55,6 +56,7 @@ pub const VERBS: [(&str, Verb); 32] = [
     ("list", Verb::List),
     ("state", Verb::State),
     ("expected", Verb::Expected),
+    ("explain", Verb::Explain),
     ("why", Verb::Why),
     ("rule", Verb::Rule),
     ("symbol", Verb::Symbol),
@@ -93,6 +95,8 @@ impl Verb {
             Verb::List => "list [N]: the text around the token ahead, or around line N",
             Verb::State => "state [N]: a state: its items, actions and gotos",
             Verb::Expected => "expected: the tokens that can come here",
+            Verb::Explain =>
+                "explain: what was seen, what can come, what is done and why, and what else could",
             Verb::Why =>
                 "why [N] [T]: why the state, or N, does what it does at the token ahead, or T",
             Verb::Rule => "rule N: a rule and its precedence",
@@ -105,8 +109,9 @@ impl Verb {
             Verb::Errors => "errors: where errors were detected so far",
             Verb::Insert => "insert T ..: puts tokens before the upcoming ones",
             Verb::Drop => "drop: removes the first upcoming token",
-            Verb::Save => "save FILE: writes the tokens, edits included, to a new file",
-            Verb::SaveOver => "save! FILE: writes the tokens, edits included, over a file",
+            Verb::Save => "save [--tokens] FILE: writes the input, edits included, to a new file",
+            Verb::SaveOver =>
+                "save! [--tokens] FILE: writes the input, edits included, over a file",
             Verb::Conflicts =>
                 "conflicts: the conflicts of the grammar file as it is now, explained",
             Verb::Reload => "reload: reads both files again, and goes to the same position",
@@ -129,7 +134,10 @@ impl Verb {
             Verb::Derivation => "100 forms are written unless told otherwise.\n\
                 Beyond 100 MB, all forms are written by derivation all! alone.",
             Verb::Expected => "Each token is tried on a copy of the stack.",
-            Verb::Save | Verb::SaveOver => "The file can be given to ydebug as its tokens.",
+            Verb::Save | Verb::SaveOver => "The file can be given to ydebug as its input.\n\
+                Of a text the words of dropped tokens are left out, and inserted tokens have a\n\
+                word that the SPEC cuts into them; --tokens writes the names of the tokens.",
+            Verb::Explain => "Each other action of a conflict is tried on a copy of the parse.",
             Verb::Reload => "Edits are made again at their positions.",
             _ => "",
         }

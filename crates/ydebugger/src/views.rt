@@ -1,8 +1,10 @@
 //! Commands that show something.
 
 use crate::condition::{WORDS, is_digits, number_in, symbol_named, symbol_near, token_named};
+use crate::explain::put_position;
 use crate::history::{SOME_STEPS, put_history};
 use crate::refusal::{Refusal, misused, put_refusal};
+use crate::text::words_of;
 use crate::travel::LAST;
 use crate::verb::Verb;
 use crate::words::{first_word, near_in};
@@ -138,27 +140,34 @@ impl<W: Write> View<'_, W> {
         };
         if name.is_empty() {
             put_why(self.alloc, self.page, asked)?;
-            // why the cell doesn't say the next step, where it doesn't
-            match session.view().mode() {
-                Mode::Running => {}
-                Mode::Popping => self.page.line(
-                    "  Error recovery: entries are popped until a state can shift error.",
-                ),
-                Mode::Accepted => {
-                    self.page
-                        .line("  The input is accepted: there is no further step.");
-                }
-                Mode::Failed => {
-                    self.page
-                        .line("  The parse has given up: there is no further step.");
-                }
-            }
+            self.put_halt("  ");
             return Ok(());
         }
         let Some(token) = token_named(session, name) else {
             return self.refuse_name(name, Refusal::NoToken);
         };
         put_why(self.alloc, self.page, Question { token, ..asked })
+    }
+
+    /// Why no step goes by the tables, where none does; whether that is so.
+    fn put_halt(&mut self, front: &str) -> bool {
+        let words = match self.parse.session.view().mode() {
+            Mode::Running => return false,
+            Mode::Popping => "Error recovery: entries are popped until a state can shift error.",
+            Mode::Accepted => "The input is accepted: there is no further step.",
+            Mode::Failed => "The parse has given up: there is no further step.",
+        };
+        self.page.put(front);
+        self.page.line(words);
+        true
+    }
+
+    /// The position in a few lines, and what could be done otherwise.
+    pub fn show_position(&mut self) -> Made<()> {
+        if self.put_halt("") {
+            return Ok(());
+        }
+        put_position(self.alloc, self.page, self.parse)
     }
 
     /// The tokens that can come here, and those that take too many reductions to say; none where the
@@ -225,7 +234,10 @@ impl<W: Write> View<'_, W> {
         let entries = parse.session.view().stack_len();
         match number_in(entry, "entries", 1, entries) {
             _ if entries == 0 => self.page.line("The stack is empty: there is no tree."),
-            Ok(entry) => return put_tree(self.alloc, self.page, &parse.session, entry, most),
+            Ok(entry) => {
+                let by = (&parse.session, words_of(parse));
+                return put_tree(self.alloc, self.page, by, entry, most);
+            }
             Err(refusal) => self.refuse(Verb::Tree, refusal),
         }
         Ok(())
@@ -233,10 +245,10 @@ impl<W: Write> View<'_, W> {
 
     /// The trees of the stack, or that of one entry.
     pub fn show_tree(&mut self, text: &str) -> Made<()> {
-        let parse = self.parse;
+        let (parse, words) = (self.parse, words_of(self.parse));
         match first_word(text) {
-            ("", _) => put_trees(self.alloc, self.page, &parse.session, SOME_LINES),
-            ("all", "") => put_trees(self.alloc, self.page, &parse.session, usize::MAX),
+            ("", _) => put_trees(self.alloc, self.page, &parse.session, words, SOME_LINES),
+            ("all", "") => put_trees(self.alloc, self.page, &parse.session, words, usize::MAX),
             (entry, "") => self.show_entry(entry, SOME_LINES),
             (entry, "all") => self.show_entry(entry, usize::MAX),
             _ => {

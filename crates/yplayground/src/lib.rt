@@ -26,6 +26,7 @@ const SETTING: Setting = Setting {
     terminal: false,
     colour: false,
     columns: None,
+    lines: None,
 };
 
 /// What a run came to: all that it wrote, and its exit status.

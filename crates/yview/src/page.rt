@@ -55,6 +55,11 @@ impl<W: Write> Page<W> {
         out
     }
 
+    /// The writer, while the page is written.
+    pub fn writer(&mut self) -> &mut W {
+        &mut self.out
+    }
+
     /// The first fault of the writer, where there was one.
     pub fn checked(&self) -> io::Result<()> {
         match self.fault {

@@ -54,7 +54,7 @@ pub fn put_head<W: Write>(page: &mut Page<W>, session: &Session, tokens: usize) 
 }
 
 /// The symbols on top of the stack.
-fn put_top<W: Write>(page: &mut Page<W>, session: &Session) {
+pub fn put_top<W: Write>(page: &mut Page<W>, session: &Session) {
     let grammar = grammar_of(session.tables());
     let len = session.view().stack_len();
     page.put(match len {
