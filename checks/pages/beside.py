@@ -307,11 +307,7 @@ def try_conflicts(count, driver, ydebug, room, shots):
         causes = browser.run("return [...document.querySelectorAll('#kinds h3')].map((it) =>"
                              " it.textContent)")
         for cause in causes:
-            line = cause.replace(", and ", " and ")
-            plain = re.sub(r", and |, | and ", " ", said)
-            kept = re.sub(r", and |, | and ", " ", line)
-            among = kept in plain or re.sub(r" of \d+ conflicts goe?s?", " more", kept) in plain
-            count.hold("conflicts: a cause", among or line.startswith("Of no cause"), cause)
+            count.hold("conflicts: a cause", f"  {cause}\n" in said, f"{cause}\n{said}")
         count.hold("conflicts: causes are named", len(causes) > 1, causes)
         height = browser.run("return document.documentElement.scrollHeight")
         browser.size(1280, min(height + 16, 4000))

@@ -16,7 +16,8 @@ function some(list, draw) {
 function troubleItem([error, ...steps]) {
   const quiet = error.reported === false ? ", not reported" : "";
   const item = link(error.place, stepText(error) + quiet);
-  item.append(make("p", { class: "could" }, expectedText(error)),
+  const told = [error, ...steps].map(expectedText).filter(Boolean);
+  item.append(make("p", { class: "could" }, told.join("\n")),
     make("ul", {}, ...some(steps, (step) => link(step.place, stepText(step)))));
   return item;
 }
@@ -46,15 +47,22 @@ function card({ number, state, token, states, shift, rules, more, why, ways, mis
     make("pre", {}, plain(why)));
 }
 
-/* What conflicts come from: precedences that settle them, or two rules that they are between. */
-function causeText([count, tokens, rules]) {
-  const of = `${count} of ${data.conflicts.all} conflicts `, [rule, other] = rules.map(ruleName);
+/* A list in words: A, B and C. */
+const listed = (words) => [words.slice(0, -1).join(", "), ...words.slice(-1)].filter(Boolean)
+  .join(" and ");
+
+/* What conflicts come from, in the words of the report: precedences that settle them, beside those
+   that are settled by causes before it, or two rules that they are between. */
+function causeText([count, tokens, rules], place) {
+  const of = `${count} of ${data.conflicts.all} conflicts`, [rule, other] = rules.map(ruleName);
   const [stand, go] = count === 1 ? ["stands", "goes"] : ["stand", "go"];
-  if (other) return `${of}${stand} between ${rule}, which is taken, and ${other}`;
+  if (other) return `${of} ${stand} between ${rule}, which is taken, and ${other}`;
+  const shown = tokens.slice(0, 20).map(name), more = tokens.length - shown.length, lines = [];
+  if (more) shown.push(`${more} tokens more`);
   const many = tokens.length > 1 ? "get precedence lines" : "gets a precedence line";
-  const lines = tokens.length ? [`${tokens.map(name).join(", ")} ${many}`] : [];
+  if (tokens.length) lines.push(`${listed(shown)} ${many}`);
   if (rule) lines.push(`${rule} a precedence of its own by %prec`);
-  return `${of}${go} when ${lines.join(", and ")}`;
+  return `${place ? `${count} more` : `${of} ${go}`} when ${lines.join(", and ")}`;
 }
 
 /* The conflicts by their causes, in the order of these; then those without one. */
@@ -69,9 +77,9 @@ function showConflicts() {
     if (head) at("kinds").append(make("h3", {}, head));
     at("kinds").append(make("ul", {}, ...cards.map(card)));
   };
-  const others = causes.length ? "Of no cause that others have" : "";
+  const others = causes.length ? "Of other causes" : "";
   causes.forEach((cause, place) =>
-    add(causeText(cause), kinds.filter((kind) => kind.cause === place)));
+    add(causeText(cause, place), kinds.filter((kind) => kind.cause === place)));
   add(others, kinds.filter((kind) => kind.cause === null));
   if (more) at("kinds").append(make("p", { class: "faint" }, `and ${more} more`));
 }
@@ -138,6 +146,7 @@ function fromAddress() {
 function begin() {
   data = JSON.parse(at("data").textContent);
   data.table.rules.forEach(([left], rule) => (rulesOf[left] ||= []).push(rule));
+  data.table.states.forEach((state) => rowOf.set(state[0], state));
   readPositions();
   readSource();
   document.title = at("title").textContent = `${data.files[1]}, parsed by ${data.files[0]}`;

@@ -39,7 +39,7 @@ pub struct Record {
     pub cells: Vec<Option<usize>>,
     /// The tokens that could come at errors, and those that take too many reductions to tell.
     pub expected: Vec<(Vec<Sym>, Vec<Sym>)>,
-    /// Which of these could come at each of the first errors.
+    /// Which of these could come at each of the first errors, and at an end that is given up at.
     pub wanted: Vec<usize>,
 }
 

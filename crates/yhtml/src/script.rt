@@ -7,7 +7,7 @@ pub const SCRIPT: &str = r##"<script>
 /* Tokens before the one ahead; bytes of the text before and after it; the most things of a list. */
 const BEFORE = 60, NEAR = 2000, MANY = 200;
 let data, positions = [], troubles = [], now;
-const lost = new Set(), rulesOf = [];
+const lost = new Set(), rulesOf = [], rowOf = new Map();
 
 const at = (id) => document.getElementById(id);
 const name = (symbol) => data.table.names[symbol];
@@ -52,19 +52,17 @@ function tokenAt(place) {
 /* The stack is a list of entries, each with the one below it. */
 function push(position, node, state) {
   const below = position.top;
-  const { depth, size } = below || { depth: 0, size: 0 };
-  position.top = { node, state, below, depth: depth + 1, size: size + node.size };
+  position.top = { node, state, below, depth: below ? below.depth + 1 : 1 };
 }
 
-/* A tree without children; each has the number of its nodes and of its leaves. */
-const leaf = (symbol, note) => ({ symbol, note, children: [], size: 1, leaves: 1 });
+/* A tree without children; each has the number of its leaves. */
+const leaf = (symbol, note) => ({ symbol, note, children: [], leaves: 1 });
 
 function reduce(position, rule) {
   const node = { ...leaf(data.table.rules[rule][0], ruleName(rule)), rule, leaves: 0 };
   for (let left = bodyOf(rule).length; left > 0; left -= 1) {
     const child = position.top.node;
     node.children.push(child);
-    node.size += child.size;
     node.leaves += child.leaves;
     position.top = position.top.below;
   }
@@ -136,7 +134,10 @@ const KINDS = {
   },
   f: {
     text: () => "give up",
-    make: (position) => (position.mode = "failed"),
+    make(position, step, numbers) {
+      if (position.mode === "running") step.expected = numbers.expected();
+      position.mode = "failed";
+    },
     why: () => here().cell ? "The end can't be discarded." : "No entry is left to be popped.",
   },
 };

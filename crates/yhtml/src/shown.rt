@@ -113,10 +113,8 @@ function showStack() {
 }
 
 /* The items of a state: those that have begun, and the rules that they lead to. */
-const stateNumbered = (state) => data.table.states.find(([number]) => number === state);
-
 function itemsOf(state) {
-  const items = stateNumbered(state)[1].slice();
+  const items = rowOf.get(state)[1].slice();
   const added = new Set();
   for (const [rule, dot] of items) {
     const symbol = bodyOf(rule)[dot];
@@ -136,7 +134,7 @@ function isAbout([rule, dot], step) {
 /* An item, with its lookaheads where it is complete. */
 function itemRow(item) {
   const [before, after] = itemText(item), next = following(), [rule, place] = item;
-  const row = stateNumbered(stateOf(here()))[2].find(([number]) => number === rule);
+  const row = rowOf.get(stateOf(here()))[2].find(([number]) => number === rule);
   const isComplete = row && place === bodyOf(rule).length;
   const looks = isComplete ? ` reduce on ${names(data.table.looks[row[1]])}` : "";
   const dot = make("span", { class: "dot", role: "img", "aria-label": "dot" }, "\u2022");
@@ -145,14 +143,14 @@ function itemRow(item) {
     make("span", { class: "looks" }, looks));
 }
 
-/* The error that comes next, or that the parse has not yet come out of. */
-function errorHere() {
+/* What is said of the error that comes next or came last, or that the parse is not yet out of. */
+function expectedHere() {
   const { step, mode } = here(), next = following();
-  if (next && next.step.kind === "e") return next.step;
-  const isOut = mode === "running" && !(step && "epxd".includes(step.kind));
-  if (isOut || mode === "accepted") return null;
-  const trouble = troubles.findLast(([first]) => first.place <= now);
-  return trouble ? trouble[0] : null;
+  for (const it of [next && next.step, step]) if (it && it.expected) return expectedText(it);
+  const isOut = mode === "running" && !(step && "xd".includes(step.kind));
+  if (isOut || mode === "accepted") return "";
+  const trouble = troubles.findLast(([error]) => error.place <= now);
+  return trouble ? expectedText(trouble[0]) : "";
 }
 
 function showState() {
@@ -163,9 +161,8 @@ function showState() {
   const end = ENDS[here().mode] || "The part that is shown ends here.";
   at("next").textContent = next ? `next: ${stepText(next.step)}` : end;
   at("why").textContent = `${cell ? plain(cell.why) : ""}\n${why ? why(next.step) : ""}`.trim();
-  const error = errorHere(), could = error ? expectedText(error) : "";
-  at("expected").hidden = !could;
-  at("expected").textContent = could;
+  at("expected").textContent = expectedHere();
+  at("expected").hidden = !at("expected").textContent;
   at("note").hidden = !(cell && cell.conflicts);
   at("note").textContent = cell ? `Conflicts counted here: ${cell.conflicts}` : "";
 }

@@ -86,7 +86,7 @@ impl Walk<'_> {
         Ok(())
     }
 
-    /// Notes which tokens could come in place of the one that was detected now, over the stack as
+    /// Notes which tokens could come in place of the one that was refused now, over the stack as
     /// it was before the reductions that this one brought: the parse goes back there for a while.
     fn note_expected(&mut self) -> io::Result<()> {
         if self.trail.record.wanted.len() >= MOST_TOLD {
@@ -114,14 +114,18 @@ impl Walk<'_> {
 
     /// Makes a step and notes it, and says whether one could be made.
     fn step(&mut self) -> io::Result<bool> {
+        let is_running = self.parse.session.view().mode() == Mode::Running;
         let Some(kind) = step(self.parse)? else {
             return Ok(false);
         };
         let state = self.parse.session.state();
         self.trail.record.note(kind, state)?;
         self.note_cell()?;
-        if let StepKind::Detect = kind {
-            self.note_expected()?;
+        match kind {
+            StepKind::Detect => self.note_expected()?,
+            // the end, which can't be discarded
+            StepKind::Fail if is_running => self.note_expected()?,
+            _ => {}
         }
         Ok(true)
     }
