@@ -19,14 +19,15 @@ def style():
     return constant("style.rt", "STYLE")
 
 
-def script():
-    """The script of a page."""
-    return constant("script.rt", "SCRIPT")
+def scripts():
+    """The script of a page, in its parts."""
+    return {it: constant(f"{it}.rt", it.upper()) for it in ("script", "shown", "trees", "moves")}
 
 
 def before():
     """What stands in front of the data."""
-    return constant("frame.rt", "FRONT") + style() + script() + constant("frame.rt", "BODY")
+    front, body = constant("frame.rt", "FRONT"), constant("frame.rt", "BODY")
+    return front + style() + "".join(scripts().values()) + body
 
 
 def after():

@@ -17,8 +17,11 @@ import tempfile
 import time
 from pathlib import Path
 
+from checks.pages.beside import (
+    try_conflicts, try_drawing, try_expected, try_looks, try_text
+)
 from checks.pages.browser import Browser, Driver, Fault
-from checks.pages.parts import after, before, script, style
+from checks.pages.parts import after, before, scripts, style
 from checks.shared.arguments import asked
 from checks.shared.places import EXAMPLES, TOP
 from checks.shared.running import ran
@@ -42,7 +45,7 @@ const seen = {
   stack: all("#stack .entry").map((it) => it.children[1].textContent).reverse(),
   rest: tokens.slice(ahead).filter((it) => !it.title.startsWith("the end"))
     .map((it) => it.textContent),
-  tree: all("[role=treeitem]").map((it) => [Number(it.ariaLevel),
+  tree: all("#tree [role=treeitem]").map((it) => [Number(it.ariaLevel),
     it.childNodes[1].textContent.trim(), it.childNodes[2].textContent.trim()]),
 };
 dispatchEvent(new Event("afterprint"));
@@ -82,7 +85,8 @@ def lint_text(count, name, text):
 def lint(count):
     """The style and the script are small, plain, and take nothing from elsewhere."""
     lint_text(count, "style", style())
-    lint_text(count, "script", script())
+    for name, text in scripts().items():
+        lint_text(count, name, text)
 
 
 def make_page(ydebug, folder, words, target):
@@ -381,6 +385,11 @@ def try_all(count, programs, shots):
         attempt(count, "escapes", try_escapes, driver, ydebug, room, shots)
         attempt(count, "long parses", try_long, driver, ydebug, room, shots)
         attempt(count, "smooth steps", try_smooth, driver, ydebug, room)
+        attempt(count, "texts", try_text, driver, ydebug, room, shots)
+        attempt(count, "what was expected", try_expected, driver, ydebug, room, shots)
+        attempt(count, "lookaheads", try_looks, driver, ydebug, room)
+        attempt(count, "drawings", try_drawing, driver, ydebug, room, shots)
+        attempt(count, "conflicts", try_conflicts, driver, ydebug, room, shots)
 
 
 def main(words):

@@ -5,11 +5,14 @@ use serde::Serialize;
 use std::alloc::{AllocError, Global};
 use std::io;
 use yexplain::lines::Lines;
+use yexplain::reads::Made;
 use yfaults::opening::Opened;
+use ylists::kinds::put_counts;
 use ylists::list_text::{ListText, put_unfound};
 use yparse::Session;
 use yreports::blocks::{Block, blocks_of};
 use yreports::brief::put_why;
+use yreports::causes::{Causes, causes_of};
 use ysearch::finding::{Finding, Seeker};
 use ysearch::groups::{Conflicts, Group, Kind};
 use ysearch::trial::empty_session;
@@ -23,6 +26,10 @@ const MOST_CARDS: usize = 200;
 /// The conflicts of one state between the same rivals, by the first of them.
 #[derive(Serialize)]
 pub struct Card {
+    /// The number of the first of them, from 1 on.
+    number: usize,
+    /// Which of the causes it has, where one is known.
+    cause: Option<usize>,
     /// The first state that has it.
     pub state: usize,
     token: Sym,
@@ -43,17 +50,33 @@ pub struct Card {
 impl Drop for Card {
     // A call in each owner, which keeps their proofs short.
     fn drop(self) {
-        let_go!(self: Card { state, token, states, shift, rules, more, why, ways, missing });
+        let_go!(self: Card {
+            number, cause, state, token, states, shift, rules, more, why, ways, missing
+        });
     }
 }
 
 /// The conflicts of a grammar.
-#[derive(Drop, Serialize)]
+#[derive(Serialize)]
 pub struct Cards {
+    /// How many conflicts there are, in how many cells and groups, as a line.
+    counts: String,
+    /// How many conflicts the causes are of.
+    all: usize,
+    /// What the conflicts come from: how many do, the tokens that settle them by precedence lines,
+    /// and the rule that then needs a precedence of its own, or the two rules they are between.
+    causes: Vec<(usize, Vec<Sym>, Vec<usize>)>,
     /// The groups of conflicts, 200 at most.
     pub kinds: Vec<Card>,
-    /// How many there are more.
+    /// How many groups there are more.
     more: usize,
+}
+
+impl Drop for Cards {
+    // A call in each owner, which keeps their proofs short.
+    fn drop(self) {
+        let_go!(self: Cards { counts, all, causes, kinds, more });
+    }
 }
 
 /// What cards are made with.
@@ -64,6 +87,7 @@ struct Maker<'a> {
     lines: &'a Lines,
     kind: &'a Kind,
     group: Group,
+    causes: Option<&'a Causes>,
 }
 
 /// What was written on a page.
@@ -102,7 +126,10 @@ impl Maker<'_> {
         put_unfound(&mut page, finding);
         let mut why = Page::new(Vec::new(self.alloc), false);
         put_why(&mut why, self.tables, self.lines, block);
+        let (number, causes) = (block.first.number, self.causes);
         Ok(Card {
+            number: number.saturating_add(1),
+            cause: causes.and_then(|causes| causes.of(number, self.kind)),
             state: cell.state,
             token: cell.token,
             states: self.group.states,
@@ -116,6 +143,58 @@ impl Maker<'_> {
     }
 }
 
+/// Causes as the page has them.
+fn causes_in(alloc: Global, causes: &Causes) -> Made<Vec<(usize, Vec<Sym>, Vec<usize>)>> {
+    let mut list = Vec::new(alloc);
+    for change in &causes.changes {
+        let tokens = Vec::from_slice(alloc, &change.tokens)?;
+        let mut rules = Vec::new(alloc);
+        if let Some(rule) = change.rule {
+            rules.push(rule)?;
+        }
+        list.push((change.settles, tokens, rules))?;
+    }
+    for ((taken, other), count) in causes.pairs.iter() {
+        let rules = Vec::from_slice(alloc, &[*taken, *other])?;
+        list.push((*count, Vec::new(alloc), rules))?;
+    }
+    Ok(list)
+}
+
+/// How many conflicts of their own kinds stand in a block.
+fn kinds_in(block: &Block) -> usize {
+    let mut count: usize = 0;
+    for class in &block.classes {
+        count = count.saturating_add(class.entries.len());
+    }
+    count
+}
+
+/// What is said of conflicts before their cards, of which there are none yet: groups are counted as
+/// the report counts them.
+fn begun_of(
+    alloc: Global,
+    tables: &Tables,
+    found: &Conflicts,
+    causes: Option<&Causes>,
+    groups: usize,
+) -> io::Result<Cards> {
+    let mut page = Page::new(Vec::new(alloc), false);
+    if found.cells > 0 {
+        put_counts(&mut page, tables, found, groups);
+    }
+    Ok(Cards {
+        counts: written(alloc, page)?,
+        all: causes.map_or(0, |causes| causes.all),
+        causes: match causes {
+            Some(causes) => causes_in(alloc, causes)?,
+            None => Vec::new(alloc),
+        },
+        kinds: Vec::new(alloc),
+        more: groups,
+    })
+}
+
 /// The cards of conflicts, sought in a session without tokens.
 fn cards_of(
     alloc: Global,
@@ -124,11 +203,10 @@ fn cards_of(
     found: &Conflicts,
 ) -> io::Result<Cards> {
     let blocks = blocks_of(alloc, session.tables(), lines, found)?;
+    let causes = causes_of(alloc, session.tables(), lines, found)?;
+    let groups = blocks.groups(found);
+    let mut cards = begun_of(alloc, session.tables(), found, causes.as_ref(), groups)?;
     let mut seeker = Seeker::new(alloc, session)?;
-    let mut cards = Cards {
-        kinds: Vec::new(alloc),
-        more: blocks.groups(found).saturating_sub(MOST_CARDS),
-    };
     for block in blocks.list.iter().take(MOST_CARDS) {
         let (kind, group) = (&block.first.kind, block.first.group);
         let finding = seeker.find(kind, group)?;
@@ -138,9 +216,13 @@ fn cards_of(
             lines,
             kind,
             group,
+            causes: causes.as_ref(),
         };
         let card = maker.card(block, &finding)?;
         cards.kinds.push(card).map_err(AllocError::from)?;
+        let is_whole = groups == blocks.list.len();
+        let shown = if is_whole { 1 } else { kinds_in(block) };
+        cards.more = cards.more.saturating_sub(shown);
     }
     Ok(cards)
 }

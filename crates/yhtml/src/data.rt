@@ -4,7 +4,8 @@ use crate::cards::Cards;
 use crate::cells::{Cell, cells_of};
 use crate::input::Input;
 use crate::record::Record;
-use crate::table::Table;
+use crate::table::{Table, states_of};
+use indexmap::IndexSet;
 use serde::Serialize;
 use std::alloc::Global;
 use std::io::{self, ErrorKind};
@@ -84,10 +85,12 @@ impl<'a> Shown<'a> {
     /// The data as JSON. It fails only when memory runs out.
     pub fn json(self, alloc: Global) -> io::Result<Vec<u8>> {
         let Opened { tables, lines } = self.opened;
-        let states = self.states(alloc)?;
+        let numbers = self.states(alloc)?;
+        let mut looks = IndexSet::new(alloc);
+        let states = states_of(alloc, tables.automaton(), &numbers, &mut looks)?;
         let data = Data {
             files: self.files,
-            table: Table::new(alloc, tables, lines, &states)?,
+            table: Table::new(alloc, tables, lines, states, looks.as_slice())?,
             input: self.input,
             record: self.record,
             cells: cells_of(alloc, tables, lines, self.asked)?,

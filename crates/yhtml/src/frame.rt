@@ -32,6 +32,10 @@ pub const BODY: &str = r##"</head>
     <div><dt>recovery counter</dt><dd id="counter"></dd></div>
   </dl>
 </section>
+<section class="panel" id="source" aria-labelledby="source-name" hidden>
+  <h2 id="source-name">Text</h2>
+  <div class="source" id="lines" role="group" tabindex="0" aria-labelledby="source-name"></div>
+</section>
 <section class="panel" aria-labelledby="tokens-name">
   <h2 id="tokens-name">Tokens</h2>
   <ol class="names" id="tokens" tabindex="0" aria-labelledby="tokens-name"></ol>
@@ -45,6 +49,7 @@ pub const BODY: &str = r##"</head>
     <h2 id="state-name">State</h2>
     <ul class="items" id="items" tabindex="0" aria-labelledby="state-name"></ul>
     <p class="next" id="next"></p>
+    <p class="could" id="expected" hidden></p>
     <p class="note" id="note" hidden></p>
     <pre id="why"></pre>
   </section>
@@ -57,6 +62,13 @@ pub const BODY: &str = r##"</head>
     <div class="rows" id="tree" role="tree" tabindex="0" aria-labelledby="tree-name"></div>
   </section>
 </div>
+<section class="panel" aria-labelledby="drawing-name">
+  <h2 id="drawing-name">Drawing of the trees</h2>
+  <div class="drawing" id="drawing" role="tree" tabindex="0" aria-labelledby="drawing-name">
+    <svg id="forest" role="presentation"><path id="edges"></path></svg>
+  </div>
+  <p class="faint" id="undrawn"></p>
+</section>
 <div class="beside">
   <section class="panel" aria-labelledby="recovery-name">
     <h2 id="recovery-name">Errors and recovery</h2>
@@ -69,15 +81,17 @@ pub const BODY: &str = r##"</head>
 </div>
 <section class="panel" id="conflicts" aria-labelledby="conflicts-name" hidden>
   <h2 id="conflicts-name">Conflicts of the grammar</h2>
-  <ul id="kinds"></ul>
+  <p id="counts"></p>
+  <div id="kinds"></div>
 </section>
 <details class="panel">
   <summary>Rules of the grammar</summary>
   <ol class="items" id="rules"></ol>
 </details>
 </main>
-<p class="hint faint">Left and right step, home and end go to the ends, space plays. In the tree the
-  arrows move and fold. The address ends with the position, as in #12.</p>
+<p class="hint faint">Left and right step, home and end go to the ends, space plays. In the trees
+  the arrows move; in the rows they fold too, in the drawing enter does. The address ends with the
+  position, as in #12.</p>
 <script type="application/json" id="data">"##;
 
 /// The end of the page, after the data.

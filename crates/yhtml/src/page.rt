@@ -4,8 +4,11 @@ use crate::cards::cards_by;
 use crate::data::Shown;
 use crate::frame::{BODY, END, FRONT};
 use crate::input::Input;
+use crate::moves::MOVES;
 use crate::script::SCRIPT;
+use crate::shown::SHOWN;
 use crate::style::STYLE;
+use crate::trees::TREES;
 use crate::walk::{MOST_STEPS, Part, Trail, Walked, walk_part};
 use std::alloc::Global;
 use std::io::{self, Write};
@@ -32,7 +35,7 @@ pub struct Asked<'a> {
 /// does.
 fn page_of(alloc: Global, json: &[u8]) -> Made<Vec<u8>> {
     let mut page = Vec::new(alloc);
-    for part in [FRONT, STYLE, SCRIPT, BODY] {
+    for part in [FRONT, STYLE, SCRIPT, SHOWN, TREES, MOVES, BODY] {
         page.extend_from_slice(part.as_bytes())?;
     }
     for (number, piece) in json.split(|byte| *byte == b'<').enumerate() {

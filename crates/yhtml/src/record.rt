@@ -3,6 +3,7 @@
 use serde::Serialize;
 use std::alloc::Global;
 use yexplain::reads::Made;
+use yinput::expected::Wanted;
 use yparse::Session;
 use yparse::machine::{Mode, StepKind};
 use ysymbols::{Sym, let_go};
@@ -36,12 +37,16 @@ pub struct Record {
     pub states: Vec<usize>,
     /// The cell that says what is done next, for each position; `None` where no cell is asked.
     pub cells: Vec<Option<usize>>,
+    /// The tokens that could come at errors, and those that take too many reductions to tell.
+    pub expected: Vec<(Vec<Sym>, Vec<Sym>)>,
+    /// Which of these could come at each of the first errors, and at an end that is given up at.
+    pub wanted: Vec<usize>,
 }
 
 impl Drop for Record {
     // A call in each owner, which keeps their proofs short.
     fn drop(self) {
-        let_go!(self: Record { start, kinds, rules, states, cells });
+        let_go!(self: Record { start, kinds, rules, states, cells, expected, wanted });
     }
 }
 
@@ -86,6 +91,23 @@ impl Record {
         if let StepKind::Reduce(_) | StepKind::Shift(_) | StepKind::ShiftError = kind {
             self.states.push(state)?;
         }
+        Ok(())
+    }
+    /// Notes the tokens that could come at an error.
+    pub fn want(&mut self, alloc: Global, found: &Wanted) -> Made<()> {
+        let Wanted { can, unknown } = found;
+        let mut place = self.expected.len();
+        for (number, (known, untold)) in self.expected.iter().enumerate() {
+            if known == can && untold == unknown {
+                place = number;
+            }
+        }
+        if place == self.expected.len() {
+            let can = Vec::from_slice(alloc, can)?;
+            let unknown = Vec::from_slice(alloc, unknown)?;
+            self.expected.push((can, unknown))?;
+        }
+        self.wanted.push(place)?;
         Ok(())
     }
 }

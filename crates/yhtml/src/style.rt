@@ -19,8 +19,10 @@ body {
   margin: 0 auto; padding: 0 1rem 2rem; max-width: 90rem; background: var(--back);
   color: var(--text); font: 16px/1.45 system-ui, sans-serif;
 }
-h1, h2, h3 { font-size: 1rem; margin: .25rem 0 .5rem; overflow-wrap: anywhere; }
-.names, .rows, .items, pre { font-family: ui-monospace, monospace; font-size: .875rem; }
+h1, h2, h3, h4 { font-size: 1rem; margin: .25rem 0 .5rem; overflow-wrap: anywhere; }
+.names, .rows, .items, .source, .drawing, pre {
+  font-family: ui-monospace, monospace; font-size: .875rem;
+}
 pre { margin: .25rem 0; white-space: pre-wrap; overflow-wrap: anywhere; }
 ol, ul, dd { list-style: none; margin: 0; padding: 0; }
 ul ul, ol ul { padding-left: 1.5rem; }
@@ -47,6 +49,13 @@ button {
 .discarded, .popped { background: var(--on-bad); }
 .discarded, .popped > :nth-child(2) { text-decoration: line-through; }
 .names [aria-current] { background: var(--mark); color: var(--on-mark); font-weight: 700; }
+.source { max-height: 300px; overflow: auto; position: relative; contain: content; }
+.line { min-height: 1.45em; padding-left: 4rem; white-space: pre-wrap; overflow-wrap: anywhere; }
+.line::before {
+  content: attr(data-line); display: inline-block; width: 3rem; margin: 0 1rem 0 -4rem;
+  color: var(--faint); text-align: right; user-select: none;
+}
+mark { background: var(--mark); color: var(--on-mark); font-weight: 700; border-radius: .2rem; }
 .three, .beside { display: grid; gap: 0 1rem; align-items: start; }
 @media (min-width: 44rem) {
   .three { grid-template-columns: 1fr 2fr; }
@@ -63,6 +72,18 @@ button {
 .rows li > :nth-child(2) { flex: 1; }
 .new { background: var(--new); }
 .items li { padding-left: 1.5rem; text-indent: -1.5rem; overflow-wrap: anywhere; }
+.looks { color: var(--faint); font-weight: 400; }
+.could { margin: .25rem 0; overflow-wrap: anywhere; white-space: pre-line; }
+.drawing { max-height: 480px; overflow: auto; contain: content; }
+.drawing svg { display: block; margin: 0 auto; }
+.drawing text { fill: var(--text); text-anchor: middle; }
+.drawing text + text { fill: var(--faint); font-size: .75rem; }
+.drawing rect { fill: var(--panel); stroke: var(--line); }
+.drawing g { cursor: pointer; }
+.drawing .folded rect { fill: var(--back); stroke-dasharray: 4 3; stroke: var(--faint); }
+.drawing .new rect { fill: var(--new); }
+.drawing:focus .active rect { stroke: var(--mark); stroke-width: 3; }
+#edges { fill: none; stroke: var(--faint); }
 .hot, .dot { font-weight: 700; }
 .hot .faint { font-weight: 400; }
 .note { background: var(--on-warn); color: var(--warn); padding: .25rem .5rem; margin: .5rem 0; }
@@ -72,7 +93,9 @@ button {
   :root { color-scheme: light; --back: #fff; --panel: #fff; --text: #000; --faint: #444; }
   .keys, .hint { display: none; }
   .bar { position: static; }
-  .rows, .items, .names { max-height: none; overflow: visible; flex-wrap: wrap; contain: none; }
+  .rows, .items, .names, .source, .drawing {
+    max-height: none; overflow: visible; flex-wrap: wrap; contain: none;
+  }
 }
 </style>
 "##;

@@ -1,16 +1,20 @@
 //! The grammar and the states as the page has them, all by number.
 
+use indexmap::IndexSet;
 use serde::Serialize;
 use std::alloc::Global;
 use yexplain::lines::Lines;
-use yexplain::reads::{Made, body_of, grammar_of, is_kernel, items_of, left_of};
-use ylalr::{Automaton, END, token_count};
+use yexplain::reads::{
+    Made, body_of, grammar_of, is_complete, is_kernel, items_of, left_of, looks_at,
+};
+use ylalr::{Automaton, END, Item, token_count};
 use ysymbols::{Sym, let_go};
 use ytables::Tables;
 use yview::reading::name_of;
 
-/// A state: its number, and the rule and the dot of each kernel item. The page adds the others.
-type State = (usize, Vec<(usize, usize)>);
+/// A state: its number, the rule and the dot of each kernel item, and of each complete item the
+/// rule and which list of tokens its lookaheads are. The page adds the other items.
+pub type State = (usize, Vec<(usize, usize)>, Vec<(usize, usize)>);
 
 /// The grammar, and some states.
 #[derive(Serialize)]
@@ -24,36 +28,60 @@ pub struct Table<'a> {
     /// The line on which each rule begins.
     lines: Vec<Option<usize>>,
     states: Vec<State>,
+    /// The lists of lookaheads.
+    looks: &'a [Vec<Sym>],
 }
 
 impl Drop for Table<'_> {
     // A call in each owner, which keeps their proofs short.
     fn drop(self) {
-        let_go!(self: Table { names, tokens, rules, lines, states });
+        let_go!(self: Table { names, tokens, rules, lines, states, looks });
     }
 }
 
-/// States, with the kernel items of each.
-fn states_of(alloc: Global, automaton: &Automaton, numbers: &[usize]) -> Made<Vec<State>> {
+/// The tokens that are lookaheads of an item in a state.
+fn looks_of(alloc: Global, automaton: &Automaton, state: usize, item: Item) -> Made<Vec<Sym>> {
+    let mut tokens = Vec::new(alloc);
+    for token in 0..token_count(automaton.grammar()) {
+        if looks_at(automaton, state, item, token) {
+            tokens.push(token)?;
+        }
+    }
+    Ok(tokens)
+}
+
+/// States of these numbers, whose lists of lookaheads are added to some.
+pub fn states_of(
+    alloc: Global,
+    automaton: &Automaton,
+    numbers: &[usize],
+    looks: &mut IndexSet<Vec<Sym>>,
+) -> Made<Vec<State>> {
     let mut states = Vec::new(alloc);
     for number in numbers {
-        let items = items_of(automaton, *number)
-            .iter()
-            .filter(|item| is_kernel(**item))
-            .map(|item| (item.rule, item.dot))
-            .collect(alloc)?;
-        states.push((*number, items))?;
+        let (mut items, mut complete) = (Vec::new(alloc), Vec::new(alloc));
+        for item in items_of(automaton, *number) {
+            if is_kernel(*item) {
+                items.push((item.rule, item.dot))?;
+            }
+            if is_complete(automaton.grammar(), *item) {
+                let tokens = looks_of(alloc, automaton, *number, *item)?;
+                complete.push((item.rule, looks.insert_full(tokens)?.0))?;
+            }
+        }
+        states.push((*number, items, complete))?;
     }
     Ok(states)
 }
 
 impl<'a> Table<'a> {
-    /// The grammar of tables, and these states of theirs.
+    /// The grammar of tables, and states of theirs with their lists of lookaheads.
     pub fn new(
         alloc: Global,
         tables: &'a Tables,
         lines: &Lines,
-        states: &[usize],
+        states: Vec<State>,
+        looks: &'a [Vec<Sym>],
     ) -> Made<Table<'a>> {
         let grammar = grammar_of(tables);
         Ok(Table {
@@ -70,7 +98,8 @@ impl<'a> Table<'a> {
             lines: (0..grammar.rules())
                 .map(|rule| lines.rule(rule))
                 .collect(alloc)?,
-            states: states_of(alloc, tables.automaton(), states)?,
+            states,
+            looks,
         })
     }
 }

@@ -6,12 +6,18 @@ use std::alloc::Global;
 use std::io::{self, ErrorKind};
 use yexplain::reads::Made;
 use yinput::Parse;
+use yinput::expected::expected_within;
 use yparse::machine::{Mode, StepFault, StepKind};
+use yparse::states::stack_states;
 use ysymbols::{Sym, let_go};
 use yview::reading::token_ahead;
 
 /// The most steps that a page shows.
 pub const MOST_STEPS: usize = 20_000;
+/// The most errors of which a page tells the tokens that could come.
+const MOST_TOLD: usize = 200;
+/// The most reductions that are made to tell them.
+const MOST_REDUCTIONS: usize = 10_000_000;
 
 /// The positions that are wanted: from one to another, or to the end.
 #[derive(Clone, Copy)]
@@ -51,8 +57,11 @@ pub enum Walked {
 /// A walk on its way.
 #[derive(Drop)]
 struct Walk<'a> {
+    alloc: Global,
     parse: &'a mut Parse,
     trail: &'a mut Trail,
+    /// How many reductions may still be made to tell which tokens could come.
+    left: usize,
 }
 
 /// A step, where one can be made.
@@ -77,14 +86,47 @@ impl Walk<'_> {
         Ok(())
     }
 
+    /// Notes which tokens could come in place of the one that was refused now, over the stack as
+    /// it was before the reductions that this one brought: the parse goes back there for a while.
+    fn note_expected(&mut self) -> io::Result<()> {
+        if self.trail.record.wanted.len() >= MOST_TOLD {
+            return Ok(());
+        }
+        let (mut steps, position) = (1_usize, self.parse.session.position());
+        for back in 2..=position {
+            match self.parse.session.kind_at(position.saturating_sub(back)) {
+                Some(StepKind::Reduce(_)) => steps = steps.saturating_add(1),
+                _ => break,
+            }
+        }
+        for _ in 0..steps {
+            let _ = self.parse.session.back();
+        }
+        let session = &self.parse.session;
+        let states = stack_states(self.alloc, session)?;
+        let found = expected_within(self.alloc, session.tables(), &states, &mut self.left)?;
+        for _ in 0..steps {
+            step(self.parse)?;
+        }
+        self.trail.record.want(self.alloc, &found)?;
+        Ok(())
+    }
+
     /// Makes a step and notes it, and says whether one could be made.
     fn step(&mut self) -> io::Result<bool> {
+        let is_running = self.parse.session.view().mode() == Mode::Running;
         let Some(kind) = step(self.parse)? else {
             return Ok(false);
         };
         let state = self.parse.session.state();
         self.trail.record.note(kind, state)?;
         self.note_cell()?;
+        match kind {
+            StepKind::Detect => self.note_expected()?,
+            // the end, which can't be discarded
+            StepKind::Fail if is_running => self.note_expected()?,
+            _ => {}
+        }
         Ok(true)
     }
 }
@@ -97,14 +139,18 @@ fn walk_on(alloc: Global, parse: &mut Parse, most: usize) -> io::Result<Walked> 
         rules: Vec::new(alloc),
         states: Vec::new(alloc),
         cells: Vec::new(alloc),
+        expected: Vec::new(alloc),
+        wanted: Vec::new(alloc),
     };
     let mut trail = Trail {
         record,
         cells: IndexSet::new(alloc),
     };
     let mut walk = Walk {
+        alloc,
         parse,
         trail: &mut trail,
+        left: MOST_REDUCTIONS,
     };
     walk.note_cell()?;
     for _ in 0..MOST_STEPS.min(most) {
