@@ -15,7 +15,8 @@ use ymessages::messages::Messages;
 pub struct Messaged {
     /// The language.
     pub language: Language,
-    messages: Option<Messages>,
+    /// The messages.
+    pub messages: Option<Messages>,
 }
 
 impl Messaged {
