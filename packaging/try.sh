@@ -53,7 +53,7 @@ run_there() {
 completed() {
   for name in ycc ystep ydebug; do named "$name" "$name"; done
   named yacc "$root/usr/libexec/sulderko/yacc"
-  for form in check conflicts import lex-spec page rules table tokens; do
+  for form in check conflicts import init lex-spec page rules table test tokens; do
     named ydebug ydebug "$form"
   done
 }

@@ -17,6 +17,7 @@ use yhtml::walk::Part;
 use yinput::grammars::GrammarFile;
 use yinput::language::LanguageFiles;
 use ymessages::run as messages;
+use yproject::{begin, testing};
 use yrules::rules;
 use ysentences::run as sentences;
 use ysentences::walk::Listed;
@@ -51,6 +52,8 @@ pub enum Asked<'a> {
     Sentences(sentences::Asked<'a>),
     /// What inputs use.
     Cover(cover::Asked<'a>),
+    /// The tests of a language.
+    Test(testing::Asked<'a>),
     /// A page of a parse over the files of a language and an input.
     Page(LanguageFiles<'a>, Limited<'a>, page::Asked<'a>),
     /// An import.
@@ -63,6 +66,8 @@ pub enum Asked<'a> {
     Rules(rules::Asked<'a>),
     /// The files that `yacc` writes.
     Table(table::Asked<'a>),
+    /// The folder of a new language of this name.
+    Init(&'a str),
 }
 
 impl Asked<'_> {
@@ -186,6 +191,41 @@ fn cover_in<'m>(matches: &'m ArgMatches<'_>) -> Result<Asked<'m>, Refused> {
     }))
 }
 
+/// The tests of a language.
+fn test_in<'m>(matches: &'m ArgMatches<'_>) -> Result<Asked<'m>, Refused> {
+    Ok(Asked::Test(testing::Asked {
+        files: language_in(matches)?,
+        folder: value_of(matches, "folder")?,
+        messages: messages_in(matches)?,
+        most: most_of(matches)?,
+    }))
+}
+
+/// The folder of a new language.
+fn init_in<'m>(matches: &'m ArgMatches<'_>) -> Result<Asked<'m>, Refused> {
+    let name = value_of(matches, "name")?;
+    match begin::wrong_in(name) {
+        Some(wrong) => Err(Refused::Wrong(wrong)),
+        None => Ok(Asked::Init(name)),
+    }
+}
+
+/// A session.
+fn session_in<'m>(matches: &'m ArgMatches<'_>) -> Result<Asked<'m>, Refused> {
+    let stops = match matches.get_str("more") {
+        None | Some("screen") => true,
+        Some("never") => false,
+        Some(_) => return Err(Refused::Wrong("--more takes screen or never")),
+    };
+    Ok(Asked::Session(SessionAsked {
+        files: language_in(matches)?,
+        input: input_in(matches)?,
+        script: matches.get_str("script"),
+        journal: matches.get_str("journal"),
+        stops,
+    }))
+}
+
 /// A page of a parse.
 fn page_of<'m>(matches: &'m ArgMatches<'_>) -> Result<Asked<'m>, Refused> {
     let (grammar, from) = page_in(matches)?;
@@ -204,26 +244,13 @@ fn page_of<'m>(matches: &'m ArgMatches<'_>) -> Result<Asked<'m>, Refused> {
 /// What a form and what stands after it ask for.
 pub fn asked_in<'m>(form: Form, matches: &'m ArgMatches<'_>) -> Result<Asked<'m>, Refused> {
     match form {
-        Form::Debug => {
-            let stops = match matches.get_str("more") {
-                None | Some("screen") => true,
-                Some("never") => false,
-                Some(_) => return Err(Refused::Wrong("--more takes screen or never")),
-            };
-            let asked = SessionAsked {
-                stops,
-                files: language_in(matches)?,
-                input: input_in(matches)?,
-                script: matches.get_str("script"),
-                journal: matches.get_str("journal"),
-            };
-            Ok(Asked::Session(asked))
-        }
+        Form::Debug => session_in(matches),
         Form::Conflicts => conflicts_in(matches),
         Form::Check => check_in(matches),
         Form::Errors => errors_in(matches),
         Form::Sentences => sentences_in(matches),
         Form::Cover => cover_in(matches),
+        Form::Test => test_in(matches),
         Form::Page => page_of(matches),
         Form::Import => Ok(Asked::Import(import::Asked {
             file: value_of(matches, "file")?,
@@ -245,5 +272,6 @@ pub fn asked_in<'m>(form: Form, matches: &'m ArgMatches<'_>) -> Result<Asked<'m>
             prefix: matches.get_str("prefix").unwrap_or("y"),
             report: is_given(matches, "v"),
         })),
+        Form::Init => init_in(matches),
     }
 }

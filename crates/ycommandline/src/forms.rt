@@ -1,6 +1,7 @@
 //! The forms of the command line.
 
-use clap::{Arg, ArgAction, Command};
+use crate::ways::{Argument, Way, argument};
+use clap::Command;
 use std::alloc::{AllocError, Global};
 
 /// How a session is asked for; the other forms are those of [`FORMS`].
@@ -19,12 +20,14 @@ pub const FORMS: &str = "Other forms:\n\
     \x20 ydebug sentences grammar --random N [--length L] [--seed S] [--lex SPEC] [--near]\n\
     \x20     [--save FOLDER] [--strict]\n\
     \x20 ydebug cover grammar tokens.. [--lex SPEC] [--states] [--actions] [--strict]\n\
+    \x20 ydebug test grammar folder [--lex SPEC] [--messages FILE]\n\
     \x20 ydebug page grammar tokens [--lex SPEC] [-o FILE] [--first K] [--last K] [--conflicts]\n\
     \x20 ydebug tokens grammar --lex SPEC input\n\
     \x20 ydebug lex-spec grammar\n\
     \x20 ydebug import file [-o grammar] [-WNAME]\n\
     \x20 ydebug rules grammar [--header FILE] [--python FILE]\n\
     \x20 ydebug table [-v] [-b PREFIX] grammar\n\
+    \x20 ydebug init name\n\
     \x20 ydebug serve\n\
     A grammar file of bison or byacc is read as one; --dialect D (yacc, bison, auto) says which it is.\n\
     With --limit N an input has up to N bytes; without it, up to 16777216.\n";
@@ -41,12 +44,14 @@ pub enum Form {
     Errors,
     Sentences,
     Cover,
+    Test,
     Page,
     Import,
     Tokens,
     Sketch,
     Rules,
     Table,
+    Init,
 }
 
 impl Form {
@@ -59,12 +64,14 @@ impl Form {
             Form::Errors => "ydebug errors",
             Form::Sentences => "ydebug sentences",
             Form::Cover => "ydebug cover",
+            Form::Test => "ydebug test",
             Form::Page => "ydebug page",
             Form::Import => "ydebug import",
             Form::Tokens => "ydebug tokens",
             Form::Sketch => "ydebug lex-spec",
             Form::Rules => "ydebug rules",
             Form::Table => "ydebug table",
+            Form::Init => "ydebug init",
         }
     }
 
@@ -75,18 +82,20 @@ impl Form {
 }
 
 /// The forms but the first.
-pub const OTHERS: [Form; 11] = [
+pub const OTHERS: [Form; 13] = [
     Form::Conflicts,
     Form::Check,
     Form::Errors,
     Form::Sentences,
     Form::Cover,
+    Form::Test,
     Form::Page,
     Form::Import,
     Form::Tokens,
     Form::Sketch,
     Form::Rules,
     Form::Table,
+    Form::Init,
 ];
 
 /// The form that a first word means.
@@ -98,38 +107,6 @@ pub fn form_of(word: Option<&&str>) -> Form {
     }
     Form::Debug
 }
-
-/// How an argument is given.
-#[derive(Clone, Copy)]
-pub enum Way {
-    /// A file, by its place, which help calls so.
-    File(&'static str),
-    /// Files, by their places: one or more.
-    Files,
-    /// An option without a value.
-    Flag,
-    /// Such an option, and another name for it.
-    Flagged(&'static str),
-    /// An option with a value, which help calls so.
-    Value(&'static str),
-    /// Such an option, which is required.
-    Wanted(&'static str),
-    /// Such an option, and another name that it has had.
-    Renamed(&'static str, &'static str),
-    /// A name that an option has had, which may be given again; help doesn't show it.
-    Old,
-    /// A letter with a value, which help calls so.
-    Letter(char, &'static str),
-    /// A letter without a value.
-    LetterFlag(char),
-    /// A letter with a value, which may be given again.
-    Letters(char, &'static str),
-    /// An option that may have a value after an equals sign, and may be given again.
-    Optional(&'static str),
-}
-
-/// An argument: its name, how it is given, and what help says of it.
-pub type Argument = (&'static str, Way, &'static str);
 
 const GRAMMAR: Argument = ("grammar", Way::File("grammar"), "The grammar file");
 
@@ -357,6 +334,19 @@ const COVER: &[Argument] = &[
     ),
 ];
 
+const TEST: &[Argument] = &[
+    GRAMMAR,
+    (
+        "folder",
+        Way::File("folder"),
+        "The folder that has good and bad, the folders of inputs",
+    ),
+    LEX,
+    LIMIT,
+    DIALECT,
+    MESSAGES,
+];
+
 const PAGE: &[Argument] = &[
     GRAMMAR,
     INPUT,
@@ -431,31 +421,11 @@ const TABLE: &[Argument] = &[
     ),
 ];
 
-/// An argument as clap has it.
-fn argument<'a>(alloc: Global, (name, way, help): Argument) -> Result<Arg<'a>, AllocError> {
-    let arg = Arg::new(alloc, name).action(ArgAction::Set).help(help);
-    Ok(match way {
-        Way::File(shown) => arg.required(true).value_name(shown),
-        Way::Files => arg.required(true).num_args(1..),
-        Way::Flag => arg.long(name).action(ArgAction::SetTrue),
-        Way::Flagged(other) => arg.long(name).alias(other)?.action(ArgAction::SetTrue),
-        Way::Value(shown) => arg.long(name).value_name(shown),
-        Way::Wanted(shown) => arg.long(name).value_name(shown).required(true),
-        Way::Renamed(shown, old) => arg.long(name).value_name(shown).alias(old)?,
-        Way::Old => arg.long(name).action(ArgAction::Append).hide(true),
-        Way::Letter(letter, shown) => arg.short(letter).value_name(shown),
-        Way::LetterFlag(letter) => arg.short(letter).action(ArgAction::SetTrue),
-        Way::Letters(letter, shown) => {
-            let arg = arg.short(letter).value_name(shown);
-            arg.action(ArgAction::Append)
-        }
-        Way::Optional(shown) => {
-            let arg = arg.long(name).value_name(shown).action(ArgAction::Append);
-            let arg = arg.num_args(0..=1).require_equals(true);
-            arg.default_missing_value("")
-        }
-    })
-}
+const INIT: &[Argument] = &[(
+    "name",
+    Way::File("name"),
+    "The name of the language, and of the folder that is made",
+)];
 
 /// What a form does.
 fn about(form: Form) -> &'static str {
@@ -466,12 +436,14 @@ fn about(form: Form) -> &'static str {
         Form::Errors => "Lists the errors of a grammar, each with a shortest wrong input",
         Form::Sentences => "Writes short sentences of a grammar that use all of it",
         Form::Cover => "Says what inputs use of a grammar, and what none of them uses",
+        Form::Test => "Tries inputs that are to be accepted, and others that aren't",
         Form::Page => "Makes a page in HTML of a parse, to be looked at in a browser",
         Form::Import => "Makes a grammar file of bison or byacc one that yacc reads",
         Form::Tokens => "Writes the tokens of a text as a tokens file",
         Form::Sketch => "Sketches the file that says how the tokens of a text look",
         Form::Rules => "Names the rules of a grammar for programs that read its table",
         Form::Table => "Writes the table of a grammar as yacc does",
+        Form::Init => "Makes a folder with what a new language begins from",
     }
 }
 
@@ -484,12 +456,14 @@ pub fn arguments_of(form: Form) -> &'static [Argument] {
         Form::Errors => ERRORS,
         Form::Sentences => SENTENCES,
         Form::Cover => COVER,
+        Form::Test => TEST,
         Form::Page => PAGE,
         Form::Import => IMPORT,
         Form::Tokens => TOKENS,
         Form::Sketch => SKETCH,
         Form::Rules => RULES,
         Form::Table => TABLE,
+        Form::Init => INIT,
     }
 }
 

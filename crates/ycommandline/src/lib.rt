@@ -2,10 +2,10 @@
 //! those of the system, and the playground over files in memory.
 //!
 //! `given` has what a run is given, `run` does what its words ask for, and `ending` says how that
-//! ends. The arguments of each form are in `forms`, their values are read by `values`, and `asked`
-//! says what they come to; `near` has what could be meant by others. `check`, `conflicts`, `cover`,
-//! `tokens`, `sketch` and `table` are forms; the others have a crate each. What the forms are given
-//! is opened by `yinput`.
+//! ends. `ways` says how an argument is given, and `forms` has those of each form; their values are
+//! read by `values`, and `asked` says what they come to; `near` has what could be meant by others.
+//! `check`, `conflicts`, `cover`, `tokens`, `sketch` and `table` are forms; the others have a crate
+//! each, or two share one. What the forms are given is opened by `yinput`.
 #![tactic(auto)]
 
 mod asked;
@@ -21,6 +21,7 @@ mod sketch;
 mod table;
 mod tokens;
 mod values;
+mod ways;
 
 pub use crate::ending::{Ended, Refused, status_of};
 pub use crate::given::Given;

@@ -1,6 +1,7 @@
 //! What is said of arguments that are refused, and what could be meant by them.
 
-use crate::forms::{Argument, Form, OTHERS, Way, arguments_of};
+use crate::forms::{Form, OTHERS, arguments_of};
+use crate::ways::{Argument, Way};
 use std::fs;
 use std::io::{self, Write};
 use std::rt::Files;

@@ -18,6 +18,8 @@ use yfrontend::import::run_import;
 use yhtml::page::run_page;
 use yinput::source::Source;
 use ymessages::run::run_errors;
+use yproject::begin::run_init;
+use yproject::testing::run_test;
 use yrules::rules::run_rules;
 use ysentences::run::run_sentences;
 
@@ -113,6 +115,7 @@ impl<F: Files + AllocGlobal + Clone + Drop, R: Read + Drop, E: Write> Given<'_, 
             Asked::Errors(asked) => run_errors(rt, asked, out, &mut self.errors),
             Asked::Sentences(asked) => run_sentences(rt, asked, out, &mut self.errors),
             Asked::Cover(asked) => self.run_cover(asked, out),
+            Asked::Test(asked) => run_test(rt, asked, out, &mut self.errors),
             Asked::Page(files, input, asked) => {
                 let source = Source { rt, files, input };
                 run_page(&source, asked, out, &mut self.errors)
@@ -122,6 +125,7 @@ impl<F: Files + AllocGlobal + Clone + Drop, R: Read + Drop, E: Write> Given<'_, 
             Asked::Sketch(file) => self.run_sketch(file, out),
             Asked::Rules(asked) => run_rules(rt, asked, out, &mut self.errors),
             Asked::Table(asked) => self.run_table(asked),
+            Asked::Init(name) => run_init(rt, name, out, &mut self.errors),
         }
     }
 

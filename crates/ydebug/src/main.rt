@@ -1,8 +1,9 @@
 //! `ydebug grammar tokens`: a debugger of parses for people. `ydebug conflicts grammar` explains
 //! the conflicts of a grammar, `ydebug check grammar tokens..` says what its sentences are, `ydebug
 //! errors grammar` lists its errors, and `ydebug page grammar tokens` makes a page of a parse.
-//! `ydebug sentences grammar` writes sentences that use all of a grammar, and `ydebug cover grammar
-//! tokens..` says what inputs use of it. `ydebug import file` makes a grammar file that `yacc`
+//! `ydebug sentences grammar` writes sentences that use all of a grammar, `ydebug cover grammar
+//! tokens..` says what inputs use of it, and `ydebug test grammar folder` tries those that are to
+//! be accepted, and others. `ydebug init name` begins a new language. `ydebug import file` makes a grammar file that `yacc`
 //! reads out of one for bison. With `--lex SPEC` a text stands in place of a tokens file; `ydebug
 //! tokens` writes the tokens of one, and `ydebug lex-spec` sketches a SPEC. `ydebug rules grammar`
 //! names the rules of a grammar for programs that read its table, and `ydebug table` writes that

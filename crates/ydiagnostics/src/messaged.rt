@@ -16,7 +16,8 @@ use ysymbols::let_go;
 pub struct Messaged {
     /// The language.
     pub language: Language,
-    messages: Option<Messages>,
+    /// The messages.
+    pub messages: Option<Messages>,
 }
 
 impl Drop for Messaged {

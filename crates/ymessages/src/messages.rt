@@ -188,11 +188,26 @@ impl Messages {
         Messages::either(rt.alloc(), inputs, path, bytes, told)
     }
 
+    /// How many parts the file has; some may be comments alone.
+    pub fn len(&self) -> usize {
+        self.parts.len()
+    }
+
+    /// The message of a part, where it has one.
+    pub fn message(&self, part: usize) -> Option<&[u8]> {
+        let span = self.parts.get(part)?.message?;
+        Some(span.of(&self.bytes))
+    }
+
+    /// The part whose message a state has, where it has one.
+    pub fn part_of(&self, state: usize) -> Option<usize> {
+        let claim = self.claims.all.get(self.claims.owner(state)?)?;
+        Some(claim.part)
+    }
+
     /// The message of a state, where it has one.
     pub fn of(&self, state: usize) -> Option<&[u8]> {
-        let claim = self.claims.all.get(self.claims.owner(state)?)?;
-        let span = self.parts.get(claim.part)?.message?;
-        Some(span.of(&self.bytes))
+        self.message(self.part_of(state)?)
     }
 
     /// The pieces of the message of a state, where it has one.

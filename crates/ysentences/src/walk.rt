@@ -94,6 +94,16 @@ fn counts_of(uses: &Uses, kind: Kind) -> (usize, usize) {
     (rounds.len(), used)
 }
 
+/// Writes how many of each kind were used, in one line.
+pub fn put_counts<W: Write>(out: &mut W, uses: &Uses) -> io::Result<()> {
+    for (place, kind) in KINDS.iter().enumerate() {
+        let (front, word) = (if place > 0 { ", " } else { "" }, kind.word(0));
+        let (all, used) = counts_of(uses, *kind);
+        write!(out, "{front}{word} {used} of {all}")?;
+    }
+    writeln!(out)
+}
+
 /// Writes how many of each kind were used, a line for each rule that never was, and one for each
 /// other element, or how many these are; says whether all was used.
 pub fn put_report<W: Write>(
@@ -102,12 +112,7 @@ pub fn put_report<W: Write>(
     uses: &Uses,
     listed: Listed,
 ) -> io::Result<bool> {
-    for (place, kind) in KINDS.iter().enumerate() {
-        let (front, word) = (if place > 0 { ", " } else { "" }, kind.word(0));
-        let (all, used) = counts_of(uses, *kind);
-        write!(out, "{front}{word} {used} of {all}")?;
-    }
-    writeln!(out)?;
+    put_counts(out, uses)?;
     let mut is_all = true;
     for kind in &KINDS {
         let (all, used) = counts_of(uses, *kind);

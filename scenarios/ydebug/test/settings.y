@@ -1,0 +1,6 @@
+%token NAME NUM
+%%
+list : setting
+     | list setting
+     ;
+setting : NAME '=' NUM ';' ;
