@@ -14,8 +14,6 @@ FENCED = r"^```(?P<info>.*)\n(?P<fenced>(?:.*\n)*?)```$"
 INSET = r"(?P<inset>(?:^ {4}.*\n(?:\n+(?= {4}))*)+)"
 MARKDOWN = re.compile(f"{FENCED}|{INSET}", re.M)
 MANUAL = re.compile(r"^\.Bd -literal.*\n(?P<literal>(?:.*\n)*?)\.Ed$", re.M)
-HEADING = re.compile(r"^#+ .*$", re.M)
-SECTION = re.compile(r"^\.S[hs] ", re.M)
 FOLDER = re.compile(r"\b[Ii]n `((?:examples|drivers)\b[^`]*)`")
 FILE = re.compile(r"\binto `([^`]+)`")
 STATUS = re.compile(r"\bstatus=(\d+)")
@@ -50,8 +48,8 @@ class Block:
     above: str
 
     def folder(self):
-        """The folder that the text above names last, below its heading, if it names one."""
-        found = FOLDER.findall(" ".join(HEADING.split(self.above)[-1].split()))
+        """The folder that the paragraph above names last, if it names one."""
+        found = FOLDER.findall(self.paragraph())
         return found[-1] if found else ""
 
     def status(self):
@@ -61,12 +59,16 @@ class Block:
             return int(found[1])
         return 0 if self.kind in ("session", "message") else None
 
+    def paragraph(self):
+        """The last paragraph above, in one line."""
+        return " ".join(self.above.rstrip().split("\n\n")[-1].split())
+
     def file(self):
         """The file that it shows: by its fence, or where it has no command by the paragraph above,
         which says into what to put it; none where neither does."""
         if self.kind == "file":
             return self.more
-        found = FILE.findall(" ".join(self.above.rstrip().split("\n\n")[-1].split()))
+        found = FILE.findall(self.paragraph())
         return found[-1] if found and not self.kind and not self.is_session() else ""
 
     def is_session(self):
@@ -98,8 +100,8 @@ class Block:
 
 
 def plain(text):
-    """A text of a manual page without its macros, with headings and paths as in Markdown."""
-    return MACRO.sub(r"\1", PATH.sub(r"`\1`\2", SECTION.sub("## ", text)))
+    """A text of a manual page without its macros, with paths in grave accents as in Markdown."""
+    return MACRO.sub(r"\1", PATH.sub(r"`\1`\2", text))
 
 
 def of_markdown(found):
