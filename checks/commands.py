@@ -6,6 +6,7 @@ GROUPS = {
     "scenarios, and what runs beside them": {
         "scenarios": "scenarios.run",
         "scenario": "scenarios.one",
+        "readers": "scenarios.readers",
         "hostile": "hostile.run",
         "refuse": "memory.refuse",
         "allocations": "memory.allocations",

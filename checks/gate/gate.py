@@ -32,6 +32,7 @@ RUNNERS = (
     ["mutants"],
     ["selftest"],
     ["scenarios"],
+    ["readers"],
     ["hostile"],
     ["refuse", "--few"],
     ["allocations"],

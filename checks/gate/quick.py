@@ -5,8 +5,8 @@
 First come the quick checks of the gate. Then, beside each other: the tests of the checks; whether
 each mutant can be applied; the scenarios, by the programs in `bin/` where these are newer than
 every file of `crates/`, and else by `rt try`; the crates of tests by `rt try --test`. Where the
-programs in `bin/` are that new, hostile files and devices, drivers and parsers in C follow, with
-few cases. What is left out is said, and why. The line before the last says that this isn't the
+programs in `bin/` are that new, commands of documents, hostile files and devices, drivers and
+parsers in C follow, with few cases. What is left out is said, and why. The line before the last says that this isn't the
 gate; the last line is `N passed, M failed`.
 """
 import re
@@ -28,6 +28,7 @@ PROGRAMS = "yacc", "ystep", "ycc", "ydebug"
 SECONDS = 300
 # What needs programs that were proved, each with the programs that it takes.
 PROVED = {
+    "readers": (["readers"], PROGRAMS),
     "hostile": (["hostile"], ("yacc", "ystep", "ydebug")),
     "drivers": (["drivers", "--sessions=50", "--tables=500"], ("yacc", "ystep", "ydebug")),
     "parsers": (["parsers", "--drawn=5"], PROGRAMS),

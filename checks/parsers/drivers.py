@@ -28,6 +28,7 @@ from checks.parsers.spoil import spoiled
 from checks.scenarios import proved, tried
 from checks.scenarios.folders import Scenario, lay
 from checks.scenarios.pages import blocks_of
+from checks.scenarios.shown import answer_to
 from checks.shared.arguments import asked
 from checks.shared.grammars import pair_of
 from checks.shared.libraries import compiler
@@ -266,7 +267,8 @@ def compare_calculators(folder, way, programs, tally):
 
 def compare_tutorial(folder, way, programs, tally):
     """The program of the tutorial, on its questions, and with a rule above the others."""
-    blocks = blocks_of(TUTORIAL.read_text())
+    text = TUTORIAL.read_text()
+    blocks, answers = blocks_of(text), answer_to(text, "python3 ask.py y.tab < questions")
     files = {name: "".join(lines).encode() for kind, name, lines, _ in blocks if kind == "file"}
     old, new = f"{folder}/queries", f"{folder}/more queries"
     more = files["queries.y"].replace(b"%%\n", b"%%\nqueries : queries ';' ;\n")
@@ -274,7 +276,7 @@ def compare_tutorial(folder, way, programs, tally):
     lay({"ask.py": files["ask.py"]}, folder)
     words = [sys.executable, f"{folder}/ask.py"]
     for names in (old, new):
-        compare_answers(tally, words, (names, names), files["questions"], files["answers"])
+        compare_answers(tally, words, (names, names), files["questions"], answers)
     compare_answers(tally, words, (old, new), files["questions"], b"", b"the table: " + OTHER)
 
 

@@ -26,6 +26,7 @@ from checks.parsers.messages import ENTRIES, grammars, told_of
 from checks.parsers.pairs import MOST, cases_of, pairs_of_scenarios
 from checks.scenarios import proved
 from checks.scenarios.pages import blocks_of
+from checks.scenarios.shown import answer_to
 from checks.shared import running
 from checks.shared.arguments import asked
 from checks.shared.grammars import pair_of
@@ -277,7 +278,8 @@ def link_both(ycc):
 
 def compare_tutorial(ycc):
     """The program of the tutorial."""
-    blocks = blocks_of(TUTORIAL.read_text())
+    text = TUTORIAL.read_text()
+    blocks, wanted = blocks_of(text), answer_to(text, "./answer < sums")
     files = {name: "".join(lines).encode() for kind, name, lines, _ in blocks if kind == "file"}
     with tempfile.TemporaryDirectory() as folder:
         file, parser, program = (f"{folder}/{it}" for it in ("sums.y", "sums.c", "sums"))
@@ -285,7 +287,7 @@ def compare_tutorial(ycc):
         ran([ycc, "-o", parser, file], "ycc")
         ran([compiler(), *STRICT, "-o", program, parser], "the compiler")
         answers = ran([program], "the program of the tutorial", files["sums"])
-    if answers != files["answers-in-c"]:
+    if answers != wanted:
         raise Differs(f"the tutorial: {answers.decode(errors='replace')}")
 
 
