@@ -36,7 +36,7 @@ pub enum Way {
 pub type Argument = (&'static str, Way, &'static str);
 
 /// An argument as clap has it.
-fn argument<'a>(alloc: Global, (name, way, help): Argument) -> Result<Arg<'a>, AllocError> {
+pub fn argument<'a>(alloc: Global, (name, way, help): Argument) -> Result<Arg<'a>, AllocError> {
     let arg = Arg::new(alloc, name).action(ArgAction::Set).help(help);
     Ok(match way {
         Way::File(shown) => arg.required(true).value_name(shown),

@@ -70,6 +70,15 @@ impl Messaged {
         }
     }
 
+    /// The language, once no more message is asked for.
+    pub fn into_language(self) -> Language {
+        let Messaged {
+            language,
+            messages: _,
+        } = self;
+        language
+    }
+
     /// All errors that a parse over an input of the language reports, by the recovery that the
     /// grammar has.
     pub fn reported(self, alloc: Global, input: &Input) -> io::Result<(Messaged, Vec<Rejection>)> {

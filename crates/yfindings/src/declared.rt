@@ -14,11 +14,10 @@ use yforeign::survey::{inside, is_macro, is_text};
 use yimport::left_out::{Barren, LeftOut};
 use ylalr::{END, ERROR};
 use yparts::parts::{Deed, Whose};
-use ysymbols::Sym;
 use ysymbols::names::{SymbolTable, intern, is_among};
+use ysymbols::{Sym, let_go};
 
 /// Declarations while they are gone through.
-#[derive(Drop)]
 pub struct Declared<'a> {
     seen: Seen<'a>,
     /// What is found.
@@ -39,6 +38,15 @@ pub struct Declared<'a> {
     dashed: SymbolTable,
     /// The variables that were set.
     defined: SymbolTable,
+}
+
+impl Drop for Declared<'_> {
+    // A call in each owner, which keeps their proofs short.
+    fn drop(self) {
+        let_go!(self: Declared {
+            seen, found, strangers, declared, tagged, strings, aliased, met, dashed, defined
+        });
+    }
 }
 
 impl<'a> Declared<'a> {

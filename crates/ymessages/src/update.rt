@@ -17,6 +17,7 @@ use yexplain::reads::{Made, grammar_of};
 use yinput::expected::Wanted;
 use ylex::writer::Writer;
 use yparse::Session;
+use ysymbols::let_go;
 use ytables::Tables;
 use yview::page::Page;
 
@@ -44,6 +45,41 @@ pub struct Update<'a> {
     pub writer: Option<&'a Writer>,
     /// Whether each state that is new gets a block of its own.
     pub alone: bool,
+}
+
+/// States in groups: those at which the same tokens could come stand together.
+struct Groups {
+    /// What the states of each group have in common.
+    keys: IndexSet<Vec<usize>>,
+    /// The groups.
+    all: Vec<Vec<usize>>,
+}
+
+impl Drop for Groups {
+    // A call in each owner, which keeps their proofs short.
+    fn drop(self) {
+        let_go!(self: Groups { keys, all });
+    }
+}
+
+impl Groups {
+    /// Puts a state into its group.
+    fn put(&mut self, alloc: Global, key: Vec<usize>, state: usize) -> Made<()> {
+        let (place, is_new) = self.keys.insert_full(key)?;
+        if is_new {
+            self.all.push(Vec::new(alloc))?;
+        }
+        if let Some(group) = self.all.get_mut(place) {
+            group.push(state)?;
+        }
+        Ok(())
+    }
+
+    /// The groups.
+    fn into_all(self) -> Vec<Vec<usize>> {
+        let Groups { keys: _, all } = self;
+        all
+    }
 }
 
 /// The states that no input of a file claims.
@@ -177,8 +213,10 @@ impl<'a> Update<'a> {
     /// The states that are new, in groups: those at which the same tokens could come stand together,
     /// unless each is wanted alone.
     fn groups(self) -> Made<Vec<Vec<usize>>> {
-        let mut keys: IndexSet<Vec<usize>> = IndexSet::new(self.alloc);
-        let mut groups: Vec<Vec<usize>> = Vec::new(self.alloc);
+        let mut groups = Groups {
+            keys: IndexSet::new(self.alloc),
+            all: Vec::new(self.alloc),
+        };
         for state in 0..self.errors.outcomes.len() {
             let Some(confirmed) = self.new_list(state) else {
                 continue;
@@ -190,15 +228,9 @@ impl<'a> Update<'a> {
             if self.alone {
                 key.push(state)?;
             }
-            let (place, is_new) = keys.insert_full(key)?;
-            if is_new {
-                groups.push(Vec::new(self.alloc))?;
-            }
-            if let Some(group) = groups.get_mut(place) {
-                group.push(state)?;
-            }
+            groups.put(self.alloc, key, state)?;
         }
-        Ok(groups)
+        Ok(groups.into_all())
     }
 
     /// Writes the input of this line for a state, after that of another one of its block.

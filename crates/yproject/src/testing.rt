@@ -170,8 +170,7 @@ pub fn run_test<F: Files + AllocGlobal + Clone + Drop, W: Write, E: Write>(
     asked.try_all(rt, &told, (&good, true), &mut tally, out)?;
     asked.try_all(rt, &told, (&bad, false), &mut tally, out)?;
     tally.put_messages(out, &told)?;
-    let Messaged { language, .. } = told;
-    let Language { opened, .. } = language;
+    let Language { opened, .. } = told.into_language();
     let Opened { tables, .. } = opened;
     tally.put_end(alloc, out, tables)?;
     Ok(tally.status)

@@ -6,7 +6,7 @@ use yexplain::reads::Made;
 use yinput::grammars::used_in;
 use ylalr::ERROR;
 use ylex::writer::Writer;
-use ysymbols::{Grammar, Sym};
+use ysymbols::{Grammar, Sym, let_go};
 
 /// The most places at which a sentence is changed in one way.
 const MOST_PLACES: usize = 3;
@@ -23,7 +23,6 @@ pub enum Change {
 }
 
 /// What changes sentences.
-#[derive(Drop)]
 pub struct Near {
     alloc: Global,
     /// The tokens of the grammar's rules, but for `error`, and those that no text has.
@@ -32,6 +31,13 @@ pub struct Near {
     turn: usize,
     /// All lists that were met.
     met: IndexSet<Vec<Sym>>,
+}
+
+impl Drop for Near {
+    // A call in each owner, which keeps their proofs short.
+    fn drop(self) {
+        let_go!(self: Near { alloc, inputs, turn, met });
+    }
 }
 
 /// The place of a part of so many places, the first one and the last one among them.

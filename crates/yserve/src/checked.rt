@@ -6,10 +6,10 @@ use serde_json::Value;
 use std::alloc::{AllocError, Global};
 use std::rt::Files;
 use std::{io, str};
-use ydiagnostics::report::{Told, told_of};
+use ydiagnostics::report::told_of;
 use yexplain::text::Escaped;
 use yfiles::category::Category;
-use yfiles::diagnostic::{Diagnostic, Severity};
+use yfiles::diagnostic::{Diagnostic, Diagnostics, Severity};
 use yfiles::place::Spot;
 use yforeign::lexeme::Kind;
 
@@ -113,32 +113,37 @@ impl Document {
         Ok(told.with_text("source", "ydebug")?.done())
     }
 
+    /// All that is said of the file, and its faults.
+    fn said(
+        &self,
+        alloc: Global,
+        told: &Diagnostics,
+    ) -> Result<(Vec<Value>, Vec<Fault>), AllocError> {
+        let (mut all, mut faults) = (Vec::new(alloc), Vec::new(alloc));
+        for one in &told.all {
+            all.push(self.told(alloc, one)?)?;
+            if let Some(code) = one.code {
+                let ((from, to), text) = (self.part_at(one.spot), self.message(alloc, one)?);
+                let text = format!(in alloc; "{code} {text}\n")?;
+                faults.push(Fault { text, from, to })?;
+            }
+        }
+        Ok((all, faults))
+    }
+
     /// Looks at the file: what is said of it, which `ydebug conflicts` says of the same bytes. Its
     /// tables are kept, where it has some.
     pub fn check<F: Files + AllocGlobal>(&mut self, rt: &F) -> io::Result<Value> {
         let alloc = rt.alloc();
         let bytes = Vec::from_slice(alloc, &self.text)?;
-        let Told {
-            told,
-            conflicts,
-            opened,
-        } = told_of(rt, &self.uri, bytes)?;
-        let (mut all, mut faults) = (Vec::new(alloc), Vec::new(alloc));
-        for one in &told.all {
-            all.push(self.told(alloc, one)?).map_err(AllocError::from)?;
-            if let Some(code) = one.code {
-                let ((from, to), text) = (self.part_at(one.spot), self.message(alloc, one)?);
-                let text = format!(in alloc; "{code} {text}\n")?;
-                faults
-                    .push(Fault { text, from, to })
-                    .map_err(AllocError::from)?;
-            }
-        }
+        let mut told = told_of(rt, &self.uri, bytes)?;
+        let (all, faults) = self.said(alloc, &told.told)?;
         self.faults = faults;
-        self.choices = match &conflicts {
+        self.choices = match &told.conflicts {
             Some(conflicts) => self.choices_of(alloc, &conflicts.causes)?,
             None => Vec::new(alloc),
         };
+        let opened = told.opened.take();
         if opened.is_some() {
             self.opened = opened;
         }
