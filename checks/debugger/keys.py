@@ -8,6 +8,7 @@ are in no file.
 Each has a text that the screen must then show. The last line is `N passed, M failed`.
 """
 import os
+import re
 import shlex
 import shutil
 import subprocess
@@ -125,6 +126,33 @@ def look_at_width(tally, environment, columns):
         room.close()
 
 
+def look_at_text(tally, environment):
+    """Edits a text, sets a breakpoint, interrupts a run, and saves the text."""
+    with tempfile.TemporaryDirectory() as where:
+        for name in ("grammar.y", "statements.lex"):
+            shutil.copy(TOP / "examples/statements" / name, where)
+        (Path(where) / "text").write_text("if (a < b)\n  a = 1; /* less */\n")
+        words = [*words_of(where)[:3], "--lex", "statements.lex", "text"]
+        room = Room(where, 80, environment, words)
+        room.shows("type help")
+        for keys, wanted in (
+            (["break token 9", "Enter"], "breakpoint 1: token 9"),
+            (["run", "Enter"], "breakpoint 1"),
+            (["drop", "Enter"], "drop"),
+            (["insert NUM '<' NUM", "Enter"], "insert   NUM"),
+            (["C-c"], "an inserted token ahead"),
+            (["breaks", "Enter"], "1  token 9"),
+            (["save made", "Enter"], "made has the text, edits included."),
+        ):
+            room.clear()
+            room.type(keys)
+            tally.hold(f"a text: {keys[0]}", room.shows(wanted), room.screen())
+        made = (Path(where) / "made").read_text() if (Path(where) / "made").exists() else ""
+        wanted = re.fullmatch(r"if \(a < b\)\n  a = \d+ < \d+ ?; /\* less \*/\n", made)
+        tally.hold("a text: what is saved", bool(wanted), made)
+        room.close()
+
+
 def look_at_screens(tally, environment):
     """Lets a command write more than a screen, and goes on."""
     with tempfile.TemporaryDirectory() as where:
@@ -196,6 +224,7 @@ def main(words):
         environment = {"YDEBUG_PROGRAM": program, "XDG_STATE_HOME": state, "NO_COLOR": "1"}
         for columns in WIDTHS:
             look_at_width(tally, environment, columns)
+        look_at_text(tally, environment)
         look_at_screens(tally, environment)
         look_at_run(tally, environment)
         look_without(tally, environment)

@@ -84,24 +84,37 @@ fn cut(path: &str) -> (&str, &'static str) {
     (path, ".h")
 }
 
-/// The names where the file of the parser is named, as bison has them.
-fn names_by_parser(alloc: Global, path: &str) -> Made<Names> {
-    let (stem, header) = cut(path);
-    let report = stem.strip_suffix(TAB).unwrap_or(stem);
-    Ok(Names {
-        parser: String::from_str(alloc, path)?,
-        header: joined(alloc, stem, header)?,
-        report: joined(alloc, report, ".output")?,
-        table: joined(alloc, report, TAB)?,
-        graph: joined(alloc, report, ".gv")?,
-        old_graph: joined(alloc, report, ".dot")?,
-        stem: String::from_str(alloc, report)?,
+/// The names of what stands beside a parser, by what comes before their endings.
+fn names_beside(alloc: Global, front: &str) -> Made<Names> {
+    let mut names = Names {
+        parser: String::new(alloc),
+        header: String::new(alloc),
+        report: String::new(alloc),
+        table: String::new(alloc),
+        graph: String::new(alloc),
+        old_graph: String::new(alloc),
+        stem: String::new(alloc),
         header_name: String::new(alloc),
         places: String::new(alloc),
         places_name: String::new(alloc),
         position: String::new(alloc),
         stack: String::new(alloc),
-    })
+    };
+    names.report = joined(alloc, front, ".output")?;
+    names.table = joined(alloc, front, TAB)?;
+    names.graph = joined(alloc, front, ".gv")?;
+    names.old_graph = joined(alloc, front, ".dot")?;
+    names.stem = String::from_str(alloc, front)?;
+    Ok(names)
+}
+
+/// The names where the file of the parser is named, as bison has them.
+fn names_by_parser(alloc: Global, path: &str) -> Made<Names> {
+    let (stem, header) = cut(path);
+    let mut names = names_beside(alloc, stem.strip_suffix(TAB).unwrap_or(stem))?;
+    names.parser = String::from_str(alloc, path)?;
+    names.header = joined(alloc, stem, header)?;
+    Ok(names)
 }
 
 /// What comes before the ending of a grammar file, and the endings of its parser and header, as
@@ -132,21 +145,10 @@ fn names_by_prefix(alloc: Global, given: Given<'_>, options: &Options<'_>) -> Ma
     let is_yacc = given.yacc || options.is_yacc || is_other;
     let (own, endings) = if is_yacc { ("y", PLAIN) } else { (stem, named) };
     let prefix = word(options.file_prefix).or(given.files).unwrap_or(own);
-    let table = joined(alloc, prefix, TAB)?;
-    Ok(Names {
-        parser: joined(alloc, &table, endings.0)?,
-        header: joined(alloc, &table, endings.1)?,
-        report: joined(alloc, prefix, ".output")?,
-        table,
-        graph: joined(alloc, prefix, ".gv")?,
-        old_graph: joined(alloc, prefix, ".dot")?,
-        stem: String::from_str(alloc, prefix)?,
-        header_name: String::new(alloc),
-        places: String::new(alloc),
-        places_name: String::new(alloc),
-        position: String::new(alloc),
-        stack: String::new(alloc),
-    })
+    let mut names = names_beside(alloc, prefix)?;
+    names.parser = joined(alloc, &names.table, endings.0)?;
+    names.header = joined(alloc, &names.table, endings.1)?;
+    Ok(names)
 }
 
 /// The names of all files but those that are named by themselves. For byacc a parser lends its

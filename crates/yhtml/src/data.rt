@@ -4,7 +4,7 @@ use crate::cards::Cards;
 use crate::cells::{Cell, cells_of};
 use crate::input::Input;
 use crate::record::Record;
-use crate::table::{Table, states_of};
+use crate::table::{Looks, Table, states_of};
 use indexmap::IndexSet;
 use serde::Serialize;
 use std::alloc::Global;
@@ -86,11 +86,13 @@ impl<'a> Shown<'a> {
     pub fn json(self, alloc: Global) -> io::Result<Vec<u8>> {
         let Opened { tables, lines } = self.opened;
         let numbers = self.states(alloc)?;
-        let mut looks = IndexSet::new(alloc);
+        let mut looks = Looks {
+            all: IndexSet::new(alloc),
+        };
         let states = states_of(alloc, tables.automaton(), &numbers, &mut looks)?;
         let data = Data {
             files: self.files,
-            table: Table::new(alloc, tables, lines, states, looks.as_slice())?,
+            table: Table::new(alloc, tables, lines, states, looks.all.as_slice())?,
             input: self.input,
             record: self.record,
             cells: cells_of(alloc, tables, lines, self.asked)?,

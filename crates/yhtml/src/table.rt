@@ -39,6 +39,19 @@ impl Drop for Table<'_> {
     }
 }
 
+/// Lists of lookaheads, each once.
+pub struct Looks {
+    /// The lists.
+    pub all: IndexSet<Vec<Sym>>,
+}
+
+impl Drop for Looks {
+    // A call in each owner, which keeps their proofs short.
+    fn drop(self) {
+        let_go!(self: Looks { all });
+    }
+}
+
 /// The tokens that are lookaheads of an item in a state.
 fn looks_of(alloc: Global, automaton: &Automaton, state: usize, item: Item) -> Made<Vec<Sym>> {
     let mut tokens = Vec::new(alloc);
@@ -55,7 +68,7 @@ pub fn states_of(
     alloc: Global,
     automaton: &Automaton,
     numbers: &[usize],
-    looks: &mut IndexSet<Vec<Sym>>,
+    looks: &mut Looks,
 ) -> Made<Vec<State>> {
     let mut states = Vec::new(alloc);
     for number in numbers {
@@ -66,7 +79,7 @@ pub fn states_of(
             }
             if is_complete(automaton.grammar(), *item) {
                 let tokens = looks_of(alloc, automaton, *number, *item)?;
-                complete.push((item.rule, looks.insert_full(tokens)?.0))?;
+                complete.push((item.rule, looks.all.insert_full(tokens)?.0))?;
             }
         }
         states.push((*number, items, complete))?;

@@ -43,7 +43,7 @@ impl Came {
         let mut place = Vec::new(alloc);
         match (verdict, spot) {
             (Verdict::Accepted(steps), _) => return Ok(Came::Accepted(*steps)),
-            (Verdict::Undecided, _) => return Ok(Came::Unjudged(1, said)),
+            (Verdict::Undecided, _) => return Ok(Came::Unjudged(verdict.status(), said)),
             (Verdict::Rejected(_), Some(spot)) => write!(place, "{spot}")?,
             (Verdict::Rejected(rejection), None) => {
                 let number = rejection.number;

@@ -243,6 +243,7 @@ fn lexemes_in(alloc: Global, source: &[u8]) -> Result<Vec<Lexeme>, AllocError> {
 pub fn index_of(alloc: Global, source: &[u8]) -> Result<Index, AllocError> {
     let lexemes = lexemes_in(alloc, source)?;
     let groups = groups_of(alloc, source, &lexemes)?;
+    let kept = Vec::from_slice(alloc, &lexemes)?;
     let mut maker = Maker {
         alloc,
         source,
@@ -251,7 +252,7 @@ pub fn index_of(alloc: Global, source: &[u8]) -> Result<Index, AllocError> {
             aliases: IndexMap::new(alloc),
             mentions: Vec::new(alloc),
             rules: Vec::new(alloc),
-            lexemes: Vec::from_slice(alloc, &lexemes)?,
+            lexemes: kept,
             parts: Vec::new(alloc),
             tags: IndexMap::new(alloc),
         },
