@@ -26,14 +26,26 @@ from checks.shared.tally import Tally
 MANUALS = sorted((TOP / "man").glob("*.[1-8]"))
 DOCUMENTS = [TOP / "README.md", TOP / "docs/MANUAL.md", *PAGES, *MANUALS]
 PROGRAMS = "ycc", "ystep", "ydebug", "yacc"
-ASIDE, ASKED = "yacc", "TABLE_WRITER=1"
-ABSENT = "#!/bin/sh\necho 'yacc: make install puts no yacc on the path' >&2\nexit 127\n"
+# What is copied by an install, and what only by one that is asked for it.
+COPIED, ASIDE, ASKED = "copies", "on_path", "TABLE_WRITER=1"
+ABSENT = "#!/bin/sh\necho 'make install puts no such program on the path' >&2\nexit 127\n"
 # Where an install has the sources of drivers.
 SHARED = "/usr/share/ydriver"
 LEFT_OUT = ".."
 SECONDS = 60
 # What stands after a command, to tell the folder in which the next one runs.
 AFTER = '\nended=$?; pwd > "$WHERE"; exit "$ended"\n'
+
+
+def copies(name):
+    """The files that a list in the Makefile copies, each with where it goes."""
+    found = re.search(rf"^define {name}\n(.*?)^endef$", (TOP / "Makefile").read_text(), re.M | re.S)
+    return [line.split()[1:] for line in found[1].splitlines()]
+
+
+def on_path(name):
+    """The programs that a list in the Makefile puts onto the path."""
+    return [Path(to).name for _, to in copies(name) if Path(to).parent == Path("bin")]
 
 
 def differs(wanted, made):
@@ -61,10 +73,11 @@ class Desk:
     def __init__(self, room, programs):
         self.room, self.programs = Path(room), programs
         self.home = self.room / "home"
-        for name in programs:
-            self.put_on_path(name)
-        self.put(ASIDE, ABSENT)
         self.home.mkdir()
+        for name in on_path(COPIED):
+            self.put_program(name)
+        for name in on_path(ASIDE):
+            self.put(name, ABSENT)
 
     def lay_out(self, text):
         """Copies what a document speaks of: the examples, the drivers, and the drivers as an
@@ -76,9 +89,14 @@ class Desk:
         if SHARED in text:
             self.install_drivers()
 
-    def put_on_path(self, name):
+    def put_program(self, name):
         """Puts one of the programs onto the path."""
         self.put(name, f'#!/bin/sh\nexec "{self.programs[name]}" "$@"\n')
+
+    def put_asked(self):
+        """Puts those onto the path that an install is asked for."""
+        for name in on_path(ASIDE):
+            self.put_program(name)
 
     def put(self, name, text):
         """Puts a script onto the path."""
@@ -89,12 +107,11 @@ class Desk:
 
     def install_drivers(self):
         """Lays the drivers where an install has them; the library is made when it is asked for."""
-        shared, include = self.room / "share", self.room / "include"
-        shared.mkdir()
-        include.mkdir()
-        for file in (*DRIVERS.glob("c/*"), *DRIVERS.glob("python/*.py"), DRIVERS / "calculator.y"):
-            if file.is_file():
-                shutil.copy(file, include if file.suffix == ".h" else shared)
+        for file, to in copies(COPIED):
+            place = to.replace("$(shared)", "share")
+            if Path(place).parts[:-1] in (("share",), ("include",)):
+                (self.room / place).parent.mkdir(exist_ok=True)
+                shutil.copy(TOP / file, self.room / place)
 
     def make_library(self):
         """Makes the library of the driver in C where none is yet."""
@@ -187,7 +204,7 @@ class Reading:
         self.desk.lay_out(text)
         for block in blocks_of(text, self.page.suffix != ".md"):
             if ASKED in block.above:
-                self.desk.put_on_path(ASIDE)
+                self.desk.put_asked()
             try:
                 self.do(block)
             except (Fault, OSError, subprocess.SubprocessError) as fault:

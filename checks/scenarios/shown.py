@@ -19,8 +19,10 @@ FILE = re.compile(r"\binto `([^`]+)`")
 STATUS = re.compile(r"\bstatus=(\d+)")
 MACRO = re.compile(r"^\.[A-Z][a-z]\b ?(.*)$", re.M)
 PATH = re.compile(r"^\.Pa (\S+)(.*)$", re.M)
-# The blocks in which lines that begin with `> ` are typed: set in, or of a manual page; or sessions.
+# The blocks in which lines that begin with `> ` are typed, set in or between fences, and those that
+# are files.
 SESSIONS = "", "session", "message", "shell"
+FILES = "file", "left"
 ESCAPES = {r"\e": "\\", r"\(dq": '"', r"\-": "-", r"\&": ""}
 ESCAPE = re.compile("|".join(map(re.escape, ESCAPES)))
 
@@ -82,6 +84,8 @@ class Block:
     def commands(self):
         """Its commands; none where no line begins as one."""
         found = []
+        if self.kind in FILES:
+            return found
         if not self.is_session():
             if self.kind in SESSIONS and any(it.startswith("> ") for it in self.lines):
                 raise Fault("lines are typed, and no command is there")
