@@ -10,7 +10,7 @@
 # make page-test  steps through the pages of every example in a headless browser, which apt-get installs where it is missing, and compares them with ystep; runs the playground too, where it was made; keeps pictures in screenshots/
 # make compare    compares the programs that make build left with plain machines in Python, on grammars drawn at random, for a minute, its reports on conflicts with all canonical sets and with what it says for programs, verdicts with sessions over every scenario, errors with a search over all stacks, texts with a lexer in Python, and what hints and warnings on conflicts say with changed grammars, for a minute each; FILES="a.y b.y" adds these, cut off and spoiled, with a second reader
 # make parsers    compares the steps of parsers that ycc makes with those of ystep, over scenarios and 2,000 grammars at random, under other policies of default reductions with those of bison and byacc over 500, their messages for errors with those of ydebug, and builds the calculator of examples/calculator-c in every way; some minutes
-# make features   builds small programs, each of which uses a feature of bison's or byacc's files, by the peer and by ycc, and compares what they do; and a calculator by ycc below make, automake's ylwrap, CMake and Meson, beside parsers that are out of date. It takes bison, byacc, a C compiler, automake, cmake, meson and ninja; some minutes
+# make features   builds small programs, each of which uses a feature of bison's or byacc's files, by the peer and by ycc, and compares what they do; and a calculator by ycc below make, automake's ylwrap, CMake and Meson, beside parsers that are out of date; and languages that ydebug init begins, with their tests. It takes bison, byacc, a C compiler, automake, cmake, meson and ninja; some minutes
 # make packages   builds some source packages of Debian with parsers that ycc makes and with those of byacc or bison, runs their own tests, and gives both builds 300 spoiled inputs for each program; PACKAGES="bc units" names some. It takes a network, byacc, bison, flex, cmake, automake and meson
 # make drawn      draws 35 source packages of Debian that use bison or byacc, makes each of their parsers by ycc too, compiles both, and says why one differs; PACKAGES="bc units" names some. It takes a network, byacc, bison, and a while
 # make drivers    builds the drivers in C and Python, and compares their steps with those of ystep, over scenarios, at random and by tables that are wrong
@@ -99,6 +99,7 @@ parsers: build
 features: build
 	@$(checks) features $(call at,ycc)
 	@$(checks) builds $(call at,ycc)
+	@$(checks) begun $(call at,ycc ydebug)
 
 packages: build
 	@$(checks) packages $(call at,ycc) $(PACKAGES)

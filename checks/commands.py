@@ -47,6 +47,7 @@ GROUPS = {
     "bison, byacc, and packages that use them": {
         "features": "peers.features",
         "builds": "peers.builds",
+        "begun": "peers.begun",
         "packages": "peers.packages",
         "drawn": "peers.drawn",
         "cells": "peers.cells",
