@@ -95,7 +95,7 @@ fn put_course<W: Write>(page: &mut Page<W>, parse: &Parse, course: Course) {
         Course::Accepted => page.line("the input is accepted"),
         Course::Refused(index) => {
             put_upcoming(page, parse, index);
-            page.line(" can't come then");
+            page.line(" can't come");
         }
         Course::Untold => page.line("no end came within 100,000 steps"),
     }
@@ -160,6 +160,9 @@ pub fn put_position<W: Write>(alloc: Global, page: &mut Page<W>, parse: &Parse) 
     // The page remembers a fault.
     let _ = put_cell(page, asked);
     let _ = asked.put_reason(page);
+    if action_of(tables, state, token) == Action::Error {
+        return Ok(());
+    }
     page.put("then ");
     let states = stack_states(alloc, session)?;
     put_course(page, parse, course_from(session, states, 0)?);

@@ -10,6 +10,7 @@ use serde::Serialize;
 use std::alloc::Global;
 use std::io::{self, ErrorKind, Write};
 use yfiles::diagnostic::Diagnostics;
+use yfiles::output::Output;
 use ysymbols::let_go;
 
 /// The version of the document.
@@ -85,9 +86,12 @@ impl Said<'_> {
     pub fn put<W: Write>(self, alloc: Global, out: &mut W, format: Format) -> io::Result<u8> {
         let sheets = sheets_of(alloc, self.told)?;
         if format != Format::Json {
+            let mut text = Output::new(alloc);
             for sheet in &sheets {
-                sheet.put(out)?;
+                sheet.put(&mut text);
+                text.hand_on(out);
             }
+            text.finish(out)?;
             return Ok(self.status);
         }
         let document = Document {

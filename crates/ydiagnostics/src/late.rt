@@ -3,9 +3,9 @@
 
 use serde::Serialize;
 use std::alloc::Global;
-use std::io::Write;
 use ycode::{Code, Policy, code_of};
 use yexplain::reads::{Made, goto_of, grammar_of, left_of};
+use yfiles::output::Output;
 use yinput::verdict::Verdict;
 use ysymbols::{Sym, let_go};
 use ytables::Tables;
@@ -147,25 +147,22 @@ impl Defaults {
 impl Late {
     /// What is said of it.
     pub fn text(&self, alloc: Global) -> Made<Vec<u8>> {
-        let (policy, state) = (self.policy, self.state);
-        let mut text = Vec::new(alloc);
-        let rules = if self.rules.len() == 1 {
-            "rule"
-        } else {
-            "rules"
-        };
-        let _ = write!(
-            text,
-            "a parser with default reductions (lr.default-reduction {policy}) detects this in \
-             state {state}, after reducing by {rules}"
-        );
+        let mut out = Output::new(alloc);
+        out.put("a parser with default reductions (lr.default-reduction ");
+        out.put(self.policy);
+        out.put(") detects this in state ");
+        out.number(self.state);
+        out.put(", after reducing by rule");
+        out.put(if self.rules.len() == 1 { "" } else { "s" });
         for (place, rule) in self.rules.iter().take(MOST_NAMED).enumerate() {
-            let front = if place > 0 { ", " } else { " " };
-            let _ = write!(text, "{front}{rule}");
+            out.put(if place > 0 { ", " } else { " " });
+            out.number(*rule);
         }
-        if self.rules.len() > MOST_NAMED {
-            let _ = write!(text, ", ..");
-        }
-        Ok(text)
+        out.put(if self.rules.len() > MOST_NAMED {
+            ", .."
+        } else {
+            ""
+        });
+        out.into_bytes()
     }
 }

@@ -2,11 +2,11 @@
 
 use serde::Serialize;
 use std::alloc::Global;
-use std::io::{self, Write};
 use std::str;
 use yexplain::reads::Made;
 use yexplain::text::Escaped;
 use yfiles::diagnostic::{Diagnostic, Diagnostics};
+use yfiles::output::Output;
 use yfiles::place::Spot;
 use ysymbols::let_go;
 
@@ -95,29 +95,34 @@ impl DiagnosticSheet {
     }
 
     /// Writes the file and a place of it, as the front of a line.
-    fn put_front<W: Write>(&self, out: &mut W, spot: Option<Spot>) -> io::Result<()> {
-        let file = self.file.as_ref().map_or("ydebug", String::as_str);
-        match spot {
-            Some(spot) => write!(out, "{file}:{spot}: "),
-            None => write!(out, "{file}: "),
+    fn put_front(&self, out: &mut Output, spot: Option<Spot>) {
+        out.put(self.file.as_ref().map_or("ydebug", String::as_str));
+        out.put(":");
+        if let Some(spot) = spot {
+            out.show(spot);
+            out.put(":");
         }
+        out.put(" ");
     }
 
     /// Writes it as gcc does, with the option that shows its category, and a line for each note.
-    pub fn put<W: Write>(&self, out: &mut W) -> io::Result<()> {
-        let (severity, message) = (self.severity, self.message.as_str());
+    pub fn put(&self, out: &mut Output) {
         let column = self.column;
-        self.put_front(out, self.line.map(|line| Spot { line, column }))?;
-        write!(out, "{severity}: {message}")?;
-        match self.category {
-            Some(name) => writeln!(out, " [-W{name}]")?,
-            None => writeln!(out)?,
+        self.put_front(out, self.line.map(|line| Spot { line, column }));
+        out.put(self.severity);
+        out.put(": ");
+        out.put(&self.message);
+        if let Some(name) = self.category {
+            out.put(" [-W");
+            out.put(name);
+            out.put("]");
         }
+        out.line("");
         for (note, spot) in self.notes.iter().zip(&self.spots) {
-            self.put_front(out, *spot)?;
-            writeln!(out, "note: {note}")?;
+            self.put_front(out, *spot);
+            out.put("note: ");
+            out.line(note);
         }
-        Ok(())
     }
 }
 

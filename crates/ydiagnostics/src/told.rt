@@ -4,11 +4,12 @@
 use crate::causes::{CauseSheet, RivalSheet};
 use crate::scene::Scene;
 use std::alloc::{AllocError, Global};
-use std::io::{self, Write};
+use std::io;
 use yambiguity::answer::Answer;
-use yexplain::reads::grammar_of;
+use yexplain::reads::{Made, grammar_of};
 use yexplain::text::{Name, Names, RuleText};
 use yfiles::diagnostic::{Diagnostic, Diagnostics, Note, Severity};
+use yfiles::output::Output;
 use yfiles::place::Spot;
 use ymends::mending::Mended;
 use ymends::words::MendText;
@@ -22,67 +23,72 @@ use ysearch::groups::{Conflicts, Group, Kind};
 const MOST_TOKENS: usize = 20;
 
 /// Writes what is taken, on which tokens, and in how many states.
-fn put_taken<W: Write>(
-    out: &mut W,
-    (kind, group): (&Kind, Group),
-    tokens: &[String],
-) -> io::Result<()> {
-    let what = if kind.shift { "shift" } else { "reduce" };
-    write!(out, "{what}/reduce conflict on ")?;
+fn put_taken(out: &mut Output, (kind, group): (&Kind, Group), tokens: &[String]) {
+    out.put(if kind.shift { "shift" } else { "reduce" });
+    out.put("/reduce conflict on ");
     let shown = tokens.get(..MOST_TOKENS).unwrap_or(tokens);
-    let (more, last) = (
-        tokens.len().saturating_sub(shown.len()),
-        shown.len().saturating_sub(1),
-    );
+    let more = tokens.len().saturating_sub(shown.len());
+    let last = shown.len().saturating_sub(1);
     for (place, token) in shown.iter().enumerate() {
-        match place {
-            0 => {}
-            _ if place == last && more == 0 => write!(out, " and ")?,
-            _ => write!(out, ", ")?,
-        }
-        write!(out, "{token}")?;
+        out.put(match place {
+            0 => "",
+            _ if place == last && more == 0 => " and ",
+            _ => ", ",
+        });
+        out.put(token);
     }
     if more > 0 {
-        write!(out, " and {more} tokens more")?;
+        out.put(" and ");
+        out.number(more);
+        out.put(" tokens more");
     }
-    write!(out, " in state {}", group.state)?;
-    match group.states.saturating_sub(1) {
-        0 => {}
-        more => write!(out, " and {more} more")?,
+    out.put(" in state ");
+    out.number(group.state);
+    if group.states > 1 {
+        out.put(" and ");
+        out.number(group.states.saturating_sub(1));
+        out.put(" more");
     }
     match kind.taken() {
-        Some(rule) => write!(out, ": rule {rule} is taken"),
-        None => write!(out, ": the shift is taken"),
+        Some(rule) => {
+            out.put(": rule ");
+            out.number(rule);
+            out.put(" is taken");
+        }
+        None => out.put(": the shift is taken"),
     }
 }
 
 /// Writes the tokens of a sentence with a period where the conflict is.
-fn put_tokens<W: Write>(out: &mut W, tokens: &[String], dot: usize) -> io::Result<()> {
+fn put_tokens(out: &mut Output, tokens: &[String], dot: usize) {
     for (place, token) in tokens.iter().enumerate() {
-        if place == dot {
-            write!(out, " .")?;
-        }
-        write!(out, " {token}")?;
+        out.put(if place == dot { " . " } else { " " });
+        out.put(token);
     }
     if dot >= tokens.len() {
-        write!(out, " .")?;
+        out.put(" .");
     }
-    Ok(())
 }
 
 /// A rival as a note at its rule.
-fn rival_note(alloc: Global, rival: &RivalSheet) -> io::Result<Note> {
-    let mut text = Vec::new(alloc);
-    let taken = if rival.taken { "taken" } else { "not taken" };
-    let how = if rival.action == "shift" {
-        "the shift in "
+fn rival_note(alloc: Global, rival: &RivalSheet) -> Made<Note> {
+    let mut out = Output::new(alloc);
+    out.put(if rival.taken {
+        "taken: "
     } else {
-        ""
-    };
-    let (rule, shown) = (rival.rule, rival.text.as_str());
-    write!(text, "{taken}: {how}rule {rule}  {shown}")?;
+        "not taken: "
+    });
+    out.put(if rival.action == "shift" {
+        "the shift in rule "
+    } else {
+        "rule "
+    });
+    out.number(rival.rule);
+    out.put("  ");
+    out.put(&rival.text);
     let column = rival.column;
     let spot = rival.line.map(|line| Spot { line, column });
+    let text = out.into_bytes()?;
     Ok(Note { spot, text })
 }
 
@@ -115,12 +121,20 @@ impl Scene<'_> {
         let mut one = Diagnostic::new(self.alloc, Some(shown.path), spot)?;
         one.severity = shown.severity;
         one.category = Some(category_of(cells.0));
-        put_taken(&mut one.message, cells, tokens)?;
+        let mut out = Output::new(self.alloc);
+        put_taken(&mut out, cells, tokens);
         for (place, rule) in cells.0.others().iter().enumerate() {
-            let front = if place == 0 { ", not" } else { " nor" };
-            let shown = RuleText(grammar, *rule);
-            write!(one.message, "{front} rule {rule} ({shown})")?;
+            out.put(if place == 0 {
+                ", not rule "
+            } else {
+                " nor rule "
+            });
+            out.number(*rule);
+            out.put(" (");
+            out.show(RuleText(grammar, *rule));
+            out.put(")");
         }
+        one.message = out.into_bytes()?;
         Ok(one)
     }
 
@@ -131,36 +145,38 @@ impl Scene<'_> {
         cause: &CauseSheet,
         finding: Option<&Finding>,
     ) -> io::Result<()> {
-        let grammar = grammar_of(self.tables);
         for sentence in &cause.sentences {
-            let mut text = Vec::new(self.alloc);
+            let mut out = Output::new(self.alloc);
             match sentence.rule {
-                _ if cause.ambiguous => {
-                    write!(text, "the grammar is ambiguous: two trees for")?;
+                _ if cause.ambiguous => out.put("the grammar is ambiguous: two trees for"),
+                Some(rule) => {
+                    out.put("by rule ");
+                    out.number(rule);
+                    out.put(":");
                 }
-                Some(rule) => write!(text, "by rule {rule}:")?,
-                None if sentence.dot >= sentence.tokens.len() => {
-                    write!(text, "by the acceptance:")?;
-                }
-                None => write!(text, "by the shift:")?,
+                None if sentence.dot >= sentence.tokens.len() => out.put("by the acceptance:"),
+                None => out.put("by the shift:"),
             }
-            put_tokens(&mut text, &sentence.tokens, sentence.dot)?;
-            one.help(text)?;
+            put_tokens(&mut out, &sentence.tokens, sentence.dot);
+            one.help(out.into_bytes()?)?;
             if cause.ambiguous {
                 return Ok(());
             }
         }
-        if let (true, Some(finding), Some(token)) = (
+        let (true, Some(finding), Some(token)) = (
             cause.sentences.is_empty(),
             finding,
             cause.tokens.first(),
-        ) {
-            for list in &finding.lists {
-                let mut text = Vec::new(self.alloc);
-                let tokens = Names(grammar, &list.tokens);
-                write!(text, "counterexample:{tokens} . {token}")?;
-                one.help(text)?;
-            }
+        ) else {
+            return Ok(());
+        };
+        for list in &finding.lists {
+            let mut out = Output::new(self.alloc);
+            out.put("counterexample:");
+            out.show(Names(grammar_of(self.tables), &list.tokens));
+            out.put(" . ");
+            out.put(token);
+            one.help(out.into_bytes()?)?;
         }
         Ok(())
     }
