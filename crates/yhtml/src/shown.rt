@@ -46,6 +46,7 @@ function sourceLines(texts, number) {
       lines.at(-1).append(isMarked ? make("mark", { "aria-current": "true" }, part) : part);
     });
   }
+  if (!lines.at(-1).textContent) lines.pop();
   return lines;
 }
 
