@@ -4,10 +4,10 @@
 
 The page of each example is stepped through by its keys, to the end and back: at each position the
 stack, the upcoming tokens, the mode, the errors, the counter and the trees are those of `show` and
-`tree`. With --install Debian's chromium and chromium-driver are installed by apt-get where they are
-missing; without it, a line says that they are, and only the sources of the page are looked at.
-Screenshots are kept in FOLDER, which is `screenshots` unless given. The last line is
-`N passed, M failed`.
+`tree`. What a page tells beside the steps is compared with `ydebug`. With --install Debian's
+chromium and chromium-driver are installed by apt-get where they are missing; without it, a line
+says that they are, and only the sources of the page are looked at. Screenshots are kept in FOLDER,
+which is `screenshots` unless given. The last line is `N passed, M failed`.
 """
 import json
 import re

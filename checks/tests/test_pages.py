@@ -3,7 +3,7 @@ import copy
 import json
 from unittest import mock
 
-from checks.pages import parts, sums, test
+from checks.pages import beside, parts, sums, test
 from checks.shared.places import SCENARIOS
 from checks.tests.fakes import Planted, ended
 
@@ -54,6 +54,24 @@ class Pages(Planted):
             shown[1][part] = other
             self.assertGreater(self.passed(shown, wanted)[1], 0, part)
         self.assertGreater(self.passed(wanted[:2], wanted)[1], 0)
+
+    def test_looks(self):
+        """Complete items and their lookaheads, also where these take two lines."""
+        said = "\n   s: 'x' .  reduce on $end\n      '+'\n   s: s . '+'  shift '+'\n"
+        said += "   reduce by rule 1 on $end '+'\n"
+        self.assertEqual(beside.looks_in(said), [["s: 'x' .", "reduce on $end '+'"]])
+
+    def test_places(self):
+        """A mark elsewhere, on something else, or out of sight is caught."""
+        right = {"position": 0, "ahead": [2, "NUM"], "mark": "20", "line": 2, "before": "\u00e9 ",
+                 "seen": True}
+        wrong = {"position": 1, "mark": "2", "line": 1, "before": "\u00e9", "seen": False}
+        for change in ({}, *({part: other} for part, other in wrong.items())):
+            how = {"looked": lambda _, found={**right, **change}: found, "data_last": lambda _: 0}
+            with mock.patch.multiple(beside, **how):
+                given = "it", None, "1\n\u00e9 20".encode(), [(1, 1), (2, 4)]
+                made = self.counted(lambda count, it=given: beside.try_places(count, *it))
+                self.assertEqual(made[1], len(change), change)
 
     def test_lint(self):
         """A line that is too long, ends in a blank, or runs what comes from a file."""

@@ -59,7 +59,8 @@ function push(position, node, state) {
 const leaf = (symbol, note) => ({ symbol, note, children: [], leaves: 1 });
 
 function reduce(position, rule) {
-  const node = { ...leaf(data.table.rules[rule][0], ruleName(rule)), rule, leaves: 0 };
+  const [symbol] = data.table.rules[rule], note = ruleName(rule);
+  const node = { symbol, rule, note, children: [], leaves: 0 };
   for (let left = bodyOf(rule).length; left > 0; left -= 1) {
     const child = position.top.node;
     node.children.push(child);

@@ -26,9 +26,9 @@ function around(begin, end) {
   const { bytes } = source;
   let from = Math.max(0, begin - NEAR), to = Math.min(bytes.length, end + NEAR);
   const newline = from ? bytes.indexOf(10, from) : -1;
-  if (newline >= 0 && newline < begin) from = newline + 1;
+  if (newline >= 0 && newline < begin - NEAR / 2) from = newline + 1;
   const last = to < bytes.length ? bytes.lastIndexOf(10, to - 1) : -1;
-  if (last >= end) to = last;
+  if (last >= end + NEAR / 2) to = last;
   while (from < begin && (bytes[from] & 0xc0) === 0x80) from += 1;
   while (to > end && (bytes[to] & 0xc0) === 0x80) to -= 1;
   return [from, to];
@@ -46,6 +46,7 @@ function sourceLines(texts, number) {
       lines.at(-1).append(isMarked ? make("mark", { "aria-current": "true" }, part) : part);
     });
   }
+  if (!lines.at(-1).textContent) lines.pop();
   return lines;
 }
 

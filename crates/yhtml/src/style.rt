@@ -86,6 +86,7 @@ mark { background: var(--mark); color: var(--on-mark); font-weight: 700; border-
 #edges { fill: none; stroke: var(--faint); }
 .hot, .dot { font-weight: 700; }
 .hot .faint { font-weight: 400; }
+#kinds h3 { margin-top: 1.25rem; padding-top: .75rem; border-top: 1px solid var(--line); }
 .note { background: var(--on-warn); color: var(--warn); padding: .25rem .5rem; margin: .5rem 0; }
 [role=treeitem] { height: 24px; line-height: 24px; white-space: pre; cursor: pointer; }
 .rows:focus .active { outline: 2px solid var(--mark); outline-offset: -2px; }

@@ -1,0 +1,6 @@
+%token A
+%%
+l :
+  | l A ';'
+  | l error ';'
+  ;
