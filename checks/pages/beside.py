@@ -65,6 +65,13 @@ def data_of(page):
     return json.loads(text[len(before()):len(text) - len(after())])
 
 
+def fits(count, what, browser):
+    """A narrow page is no wider than the window."""
+    browser.size(360, 800)
+    wide = browser.run("return document.documentElement.scrollWidth")
+    count.hold(f"{what}: fits 360 pixels", wide <= 360, wide)
+
+
 def asked(ydebug, folder, words, lines):
     """What a session answers to the last of some lines."""
     def said(lines):
@@ -133,6 +140,7 @@ def try_text(count, driver, ydebug, room, shots):
             try_places(count, text, browser, source, spots(ydebug, folder, words))
             count.hold(f"{text}: no error in the script", not browser.errors())
             browser.shot(shots / f"text-{text}.png")
+            fits(count, text, browser)
 
 
 def in_place_of(token, said):
@@ -172,6 +180,7 @@ def try_expected(count, driver, ydebug, room, shots):
                                      ".map((it) => it.textContent)")
                 count.hold(f"{name}: listed at {at}", listed[errors.index(at)] == wanted, listed)
             browser.shot(shots / f"expected-{name}.png")
+            fits(count, name, browser)
             browser.press("end")
             found = looked(browser)
             told = found["mode"] == "failed"
@@ -316,3 +325,4 @@ def try_conflicts(count, driver, ydebug, room, shots):
         height = browser.run("return document.documentElement.scrollHeight")
         browser.size(1280, min(height + 16, 4000))
         browser.shot(shots / "conflicts.png")
+        fits(count, "conflicts", browser)

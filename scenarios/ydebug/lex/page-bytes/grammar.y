@@ -1,0 +1,3 @@
+%token NUM
+%%
+s : NUM | s '+' NUM ;
