@@ -128,7 +128,8 @@ def try_text(count, driver, ydebug, room, shots):
     folder.mkdir()
     for file in ("grammar.y", "statements.lex"):
         (folder / file).write_text((EXAMPLES / "statements" / file).read_text())
-    letters = "/* \u00e9\u4e2d */\n" * 300 + "/* " + "\u00e9" * 3000 + " */ m\n= n;\n"
+    far, long = "/* \u00e9\u4e2d */\n" * 300, "/* " + "\u00e9" * 3000 + " */"
+    letters = f"n = 1; /* two\nlines */\n{far}{long} m\n= n /* \u00e9 */ ;{long}k;\n"
     (folder / "letters.c").write_text(letters)
     for folder, spec, text in [*folders, (folder, "statements.lex", "letters.c")]:
         page, words = room / f"{text}.html", ["grammar.y", "--lex", spec, text]

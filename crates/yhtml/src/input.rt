@@ -55,7 +55,7 @@ fn taken_at(session: &Session, index: usize) -> Option<Sym> {
 }
 
 /// The lines and columns of some tokens, from the one of a number on, and of what follows them, and
-/// how many bytes each has up to the next one, without the blanks between them.
+/// how many bytes each of them has.
 fn places_of(
     alloc: Global,
     text: &Text,
@@ -66,12 +66,8 @@ fn places_of(
     let mut spots = Spots::new(&text.bytes);
     for index in 0..=count {
         let number = first.saturating_add(index);
-        let (from, to) = (text.at(number), text.at(number.saturating_add(1)));
-        let word = text.bytes.get(from..to).unwrap_or(&[]);
-        let last = word.iter().rposition(|byte| !byte.is_ascii_whitespace());
-        let length = last.map_or(0, |last| last.saturating_add(1));
-        let (line, column) = spots.reach(from);
-        places.push((line, column, length))?;
+        let (line, column) = spots.reach(text.at(number));
+        places.push((line, column, text.word(number).len()))?;
     }
     Ok(places)
 }
