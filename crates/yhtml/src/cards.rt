@@ -87,7 +87,8 @@ struct Maker<'a> {
     lines: &'a Lines,
     kind: &'a Kind,
     group: Group,
-    causes: Option<&'a Causes>,
+    /// The number of the cause that it comes from, where one is known.
+    cause: Option<usize>,
 }
 
 /// What was written on a page.
@@ -126,10 +127,9 @@ impl Maker<'_> {
         put_unfound(&mut page, finding);
         let mut why = Page::new(Vec::new(self.alloc), false);
         put_why(&mut why, self.tables, self.lines, block);
-        let (number, causes) = (block.first.number, self.causes);
         Ok(Card {
-            number: number.saturating_add(1),
-            cause: causes.and_then(|causes| causes.of(number, self.kind)),
+            number: block.first.number.saturating_add(1),
+            cause: self.cause,
             state: cell.state,
             token: cell.token,
             states: self.group.states,
@@ -210,13 +210,17 @@ fn cards_of(
     for block in blocks.list.iter().take(MOST_CARDS) {
         let (kind, group) = (&block.first.kind, block.first.group);
         let finding = seeker.find(kind, group)?;
+        let mut cause = None;
+        if let Some(causes) = &causes {
+            cause = causes.of(block.first.number, kind);
+        }
         let maker = Maker {
             alloc,
             tables: seeker.session.tables(),
             lines,
             kind,
             group,
-            causes: causes.as_ref(),
+            cause,
         };
         let card = maker.card(block, &finding)?;
         cards.kinds.push(card).map_err(AllocError::from)?;

@@ -6,7 +6,8 @@ use std::alloc::Global;
 use std::io::{self, ErrorKind};
 use yexplain::reads::Made;
 use yinput::Parse;
-use yinput::expected::expected_within;
+use yinput::expected::{Wanted, expected_within};
+use yparse::Session;
 use yparse::machine::{Mode, StepFault, StepKind};
 use yparse::states::stack_states;
 use ysymbols::{Sym, let_go};
@@ -73,6 +74,12 @@ fn step(parse: &mut Parse) -> io::Result<Option<StepKind>> {
     }
 }
 
+/// The tokens that can come over the stack of a session, within so many reductions.
+fn wanted_in(alloc: Global, session: &Session, left: &mut usize) -> Made<Wanted> {
+    let states = stack_states(alloc, session)?;
+    expected_within(alloc, session.tables(), &states, left)
+}
+
 impl Walk<'_> {
     /// Notes the cell that says what is done next.
     fn note_cell(&mut self) -> Made<()> {
@@ -102,9 +109,9 @@ impl Walk<'_> {
         for _ in 0..steps {
             let _ = self.parse.session.back();
         }
-        let session = &self.parse.session;
-        let states = stack_states(self.alloc, session)?;
-        let found = expected_within(self.alloc, session.tables(), &states, &mut self.left)?;
+        let mut left = self.left;
+        let found = wanted_in(self.alloc, &self.parse.session, &mut left)?;
+        self.left = left;
         for _ in 0..steps {
             step(self.parse)?;
         }
