@@ -155,7 +155,7 @@ const DEBUG: &[Argument] = &[
     (
         "more",
         Way::Value("WHEN"),
-        "screen: what is written stops at the end of a screen, if LINES says how many lines it has; never: it doesn't",
+        "screen: stops at the end of a screen of LINES lines, as without it; never: goes on",
     ),
     LIMIT,
     DIALECT,
