@@ -385,7 +385,7 @@ class Texts(OverTexts):
 
     def test_right(self):
         """What is right is no fault; the column and the tokens that can come are these."""
-        wanted = "text:2:3: error: unexpected NUM, expected end of input or '+'\n    2 3 +\n      ^\n"
+        wanted = "text:2:3: error: unexpected NUM '3', expected end of input or '+'\n    2 3 +\n      ^\n"
         self.assertEqual(texts.answer(self.tables, self.spec, b"1 +\n2 3 +\n"), wanted)
         self.assertIsNone(self.fault())
 
@@ -400,6 +400,12 @@ class Texts(OverTexts):
         self.spec.words = [(3, b"NUM", True)]
         self.assertEqual(self.spec.called(2), "NUM")
         self.assertEqual(self.spec.called(3), "'+'")
+
+    def test_met(self):
+        """A token is told by its name and its word, or by the one that says all."""
+        for word, told in (("3", "NUM '3'"), ("num", "'num'"), ("", "NUM"), ("1" * 41, f"NUM '{'1' * 40}..'")):
+            self.assertEqual(texts.met(self.spec, 2, word), told)
+        self.assertEqual(texts.met(self.spec, 3, "+"), "'+'")
 
     def test_each_change(self):
         """Another column, token, caret, status; a token less; a session that fails."""
