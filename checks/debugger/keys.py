@@ -3,8 +3,8 @@
     keys [ydebug=PATH]
 
 It takes tmux and rlwrap. What it types: moves, words that are completed, an earlier line,
-interrupts at the prompt and in what takes long, more than a screen, the end of input over edits that
-are in no file.
+interrupts at the prompt and in what takes long, more than a screen of a session and of a report, the
+end of input over edits that are in no file.
 Each has a text that the screen must then show. The last line is `N passed, M failed`.
 """
 import os
@@ -174,6 +174,23 @@ def look_at_screens(tally, environment):
         room.close()
 
 
+def look_at_report(tally, environment):
+    """Reads a report by screens, and whole."""
+    with tempfile.TemporaryDirectory() as where:
+        folder_of("examples/statements", where)
+        words = [*words_of(where)[:2], "conflicts", "grammar.y"]
+        first, last = "1 shift/reduce", "status 0"
+        room = Room(where, 80, environment, words, rows=12)
+        stops = room.shows(first) and last not in room.screen()
+        tally.hold("a report stops at a screen", stops, room.screen())
+        room.type(["q"])
+        tally.hold("it ends with its status", room.shows(last), room.screen())
+        room.close()
+        room = Room(where, 80, environment, [*words, "--more=never"], rows=12)
+        tally.hold("a report is written whole", room.shows(last), room.screen())
+        room.close()
+
+
 def look_at_run(tally, environment):
     """Interrupts what takes long, at position 100,000."""
     with tempfile.TemporaryDirectory() as where:
@@ -226,6 +243,7 @@ def main(words):
             look_at_width(tally, environment, columns)
         look_at_text(tally, environment)
         look_at_screens(tally, environment)
+        look_at_report(tally, environment)
         look_at_run(tally, environment)
         look_without(tally, environment)
     return tally.end()
