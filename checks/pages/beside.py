@@ -83,7 +83,7 @@ def asked(ydebug, folder, words, lines):
 def spots(ydebug, folder, words):
     """The line and the column of each token of a text."""
     said = asked(ydebug, folder, words, ["upcoming"])
-    return [(int(line), int(column)) for line, column in re.findall(r" (\d+):(\d+)$", said, re.M)]
+    return [(int(line), int(column)) for line, column in re.findall(r"@(\d+):(\d+)$", said, re.M)]
 
 
 def word_at(source, line, column):
