@@ -4,7 +4,8 @@
 
 Verdicts are those of `ydebug check --plain`. A session's replies to `run 1000000` say what each
 must be: the position of the acceptance, or the place of the first error that is detected, which is
-after the tokens shifted before it. Of each GRAMMAR, N sentences (100) are drawn, and a token of
+after the tokens shifted before it. With `--all` it must say each error that the session reports, and no
+other: after one none is, until three tokens were shifted. Of each GRAMMAR, N sentences (100) are drawn, and a token of
 every other one is changed. Every difference is shown; the last line is `N passed, M failed`.
 """
 import random
@@ -32,6 +33,34 @@ def said_of(replies):
             return f"rejected at token {shifted + 1}"
         shifted += kind.startswith("shift ")
     return "limit"
+
+
+def reported_in(replies):
+    """The numbers of the tokens at which the lines of a run report an error."""
+    passed = wait = 0
+    for line in replies.splitlines():
+        kind = line.partition(" ")[2]
+        if kind == "detect":
+            if not wait:
+                yield passed + 1
+            wait = 3
+        elif kind.startswith("discard "):
+            passed += 1
+        elif kind.startswith("shift ") and kind != "shift error":
+            passed, wait = passed + 1, max(wait - 1, 0)
+
+
+def compare_all(programs, grammar, tokens, tally):
+    """Compares the errors that are said of a tokens file with those that a session reports."""
+    ydebug, ystep = programs
+    made = ran([ystep, grammar, tokens], None, "run 1000000\n")
+    if made.returncode:
+        return
+    wanted = [*reported_in(made.stdout)]
+    said = ran([ydebug, "check", "--all", grammar, tokens]).stdout
+    found = [int(it) for it in re.findall(r": error: rejected at token (\d+): ", said)]
+    told = f"errors at {wanted} by a session, at {found} by check\n"
+    tally.take(f"{tokens}, all errors", [] if found == wanted else [told])
 
 
 def session_says(ystep, grammar, tokens):
@@ -109,8 +138,12 @@ def main(words):
     with tempfile.TemporaryDirectory() as room:
         for grammar, tokens in pairs_of_scenarios(Path(room)):
             compare(programs, grammar, [tokens], tally)
+            compare_all(programs, grammar, tokens, tally)
         for at, grammar in enumerate(given.words):
             inner = Path(room) / f"drawn{at}"
             inner.mkdir()
-            compare(programs, grammar, drawn(grammar, given.count, inner, rng), tally)
+            files = drawn(grammar, given.count, inner, rng)
+            compare(programs, grammar, files, tally)
+            for file in files:
+                compare_all(programs, grammar, file, tally)
     return tally.end()

@@ -501,6 +501,37 @@ class Verdicts(Planted):
         self.assertEqual(self.counted_with("tokens: rejected at token 2", lines=2), (1, 1))
 
 
+class AllErrors(Planted):
+    """Errors of an input that differ from those of a session."""
+
+    RUN = """1 shift A
+2 detect
+3 pop A
+4 shift error
+5 discard B
+6 shift C
+7 detect
+8 shift error
+9 shift C
+10 shift C
+11 shift C
+12 detect
+"""
+
+    def counted_with(self, *numbers):
+        """How much passed and failed where `ydebug` says errors at tokens of these numbers."""
+        said = "".join(f"tokens: error: rejected at token {it}: unexpected A\n" for it in numbers)
+        both = self.program("ydebug", f"print({said!r})\n")
+        ystep = self.program("ystep", f"sys.stdin.read()\nsys.stdout.write({self.RUN!r})\n")
+        return self.counted(verdicts.compare_all, [both, ystep], "grammar.y", "tokens")
+
+    def test_each_change(self):
+        """The first error alone, one that isn't reported, another token, none."""
+        self.assertEqual(self.counted_with(2, 7), (1, 0))
+        for wrong in ((2,), (2, 4, 7), (2, 6), (2, 7, 7), ()):
+            self.assertEqual(self.counted_with(*wrong), (0, 1), wrong)
+
+
 class Errors(Planted):
     """Lists of wrong inputs that are others."""
 
