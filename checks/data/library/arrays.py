@@ -26,10 +26,10 @@ def at(array, index):
     return array[index]
 
 
-def held(code, arrays, state, column):
-    """The number of a state at a column, where it has one of its own."""
+def held(code, arrays, number, column):
+    """What a row has at a column, where it has a number of its own there."""
     row, check, value = (getattr(code, name) for name in arrays)
-    place = at(row, state) + column
+    place = at(row, number) + column
     return at(value, place) if at(check, place) == column else None
 
 
@@ -46,9 +46,9 @@ def action_of(code, state, token):
 
 def goto_of(code, state, symbol):
     """Where a goto of a state leads."""
-    column = symbol - code.tokens
-    own = held(code, ("grow", "gcheck", "gvalue"), state, column)
-    return at(code.target, column) if own is None else own
+    left = symbol - code.tokens
+    own = held(code, ("grow", "gcheck", "gvalue"), left, state)
+    return at(code.target, left) if own is None else own
 
 
 def said_by(code, table):

@@ -257,38 +257,39 @@ cells_more p v n usual sets s t rows r m es c a k u so en nothing mo nu li = rec
     most q (inr e) = subst (EntriesAtMost (states_of v + rules_of v))
         (sym (last rows es [] n q c.counts.2 e)) mo
 
--- the gotos with those of one more state
+-- the gotos with those over one more nonterminal
 pub targets_more : (v : TablesValue) (n : ℕ) (usual : List ℕ) (rows : List (List Entry))
     (es : List Entry) → AreTargets v n usual rows →
-    ((x : ℕ) → x < length usual →
-    entry_at es x ≡ beside (slice_index usual x) (goto_in v.built n (tokens_of v + x))) →
-    EntriesAtMost (states_of v) es → es ≡ goto_entries v usual n →
+    ((q : ℕ) → q < states_of v →
+    entry_at es q ≡ beside (slice_index usual n) (goto_in v.built q (tokens_of v + n))) →
+    EntriesAtMost (states_of v) es → es ≡ goto_entries v (slice_index usual n) n →
     AreTargets v (n + 1) usual (rows ++ es ∷ [])
 targets_more v n usual rows es c en mo li = record {
   count = c.count;
-  states = longer rows es n c.states;
+  made = longer rows es n c.made;
   below = c.below;
-  entries = λ q x l h. entries q x h (below_or_last q n l);
-  most = λ q l. most q (below_or_last q n l);
-  lists = λ q l. lists q (below_or_last q n l);
+  entries = λ q x h l. entries q x h (below_or_last x n l);
+  most = λ x l. most x (below_or_last x n l);
+  lists = λ x l. lists x (below_or_last x n l);
   targets = c.targets;
 }
   where
-    lists : (q : ℕ) → (q < n) ⊎ (q ≡ n) →
-        get_or (rows ++ es ∷ []) q [] ≡ goto_entries v usual q
-    lists q (inl l) = before rows es [] n q c.states l ∙ c.lists q l
-    lists q (inr e) = last rows es [] n q c.states e ∙ (li ∙ ap (goto_entries v usual) (sym e))
+    lists : (x : ℕ) → (x < n) ⊎ (x ≡ n) →
+        get_or (rows ++ es ∷ []) x [] ≡ goto_entries v (slice_index usual x) x
+    lists x (inl l) = before rows es [] n x c.made l ∙ c.lists x l
+    lists x (inr e) = last rows es [] n x c.made e ∙ (li ∙
+        ap (λ (y : ℕ). goto_entries v (slice_index usual y) y) (sym e))
 
-    entries : (q x : ℕ) → x < length usual → (q < n) ⊎ (q ≡ n) →
-        entry_at (get_or (rows ++ es ∷ []) q []) x ≡
+    entries : (q x : ℕ) → q < states_of v → (x < n) ⊎ (x ≡ n) →
+        entry_at (get_or (rows ++ es ∷ []) x []) q ≡
         beside (slice_index usual x) (goto_in v.built q (tokens_of v + x))
-    entries q x h (inl l) = ap (λ y. entry_at y x) (before rows es [] n q c.states l) ∙
-        c.entries q x l h
-    entries q x h (inr e) = ap (λ y. entry_at y x) (last rows es [] n q c.states e) ∙ (en x h ∙
-        ap (λ y. beside (slice_index usual x) (goto_in v.built y (tokens_of v + x))) (sym e))
+    entries q x h (inl l) = ap (λ y. entry_at y q) (before rows es [] n x c.made l) ∙
+        c.entries q x h l
+    entries q x h (inr e) = ap (λ y. entry_at y q) (last rows es [] n x c.made e) ∙ (en q h ∙
+        ap (λ (y : ℕ). beside (slice_index usual y) (goto_in v.built q (tokens_of v + y))) (sym e))
 
-    most : (q : ℕ) → (q < n) ⊎ (q ≡ n) → EntriesAtMost (states_of v)
-        (get_or (rows ++ es ∷ []) q [])
-    most q (inl l) = subst (EntriesAtMost (states_of v)) (sym (before rows es [] n q c.states l))
-        (c.most q l)
-    most q (inr e) = subst (EntriesAtMost (states_of v)) (sym (last rows es [] n q c.states e)) mo
+    most : (x : ℕ) → (x < n) ⊎ (x ≡ n) → EntriesAtMost (states_of v)
+        (get_or (rows ++ es ∷ []) x [])
+    most x (inl l) = subst (EntriesAtMost (states_of v)) (sym (before rows es [] n x c.made l))
+        (c.most x l)
+    most x (inr e) = subst (EntriesAtMost (states_of v)) (sym (last rows es [] n x c.made e)) mo

@@ -11,6 +11,8 @@ use Rattle.ysymbols.specs.WellFormed.{WellFormed}
 use Rattle.ylalr.specs.declared.items.Item.{Item}
 use Rattle.ylalr.specs.Collection.{Collection, HasStates, Guide, IsGuide, IsGoto, bare_of, state_of}
 use Rattle.ylalr.specs.Collection.{goto_in}
+use Rattle.ylalr.specs.Items.{start}
+use Rattle.ylalr.specs.States.{start_item}
 use Rattle.ytables.specs.declared.class.Class.{Class}
 use Rattle.ytables.specs.declared.cell.Action.{Action}
 use Rattle.ytables.specs.declared.cell.Action.TheVariants.{Shift, Reduce, Accept, Error}
@@ -82,6 +84,10 @@ goto_from g to k t n e = go (has_before g k t) e
     go : (b : Bool) → (if b then Some (shift_of to t) else None) ≡ Some (Shift n) → to t ≡ Some n
     go true e = let f : shift_of to t ≡ Shift n = cc in at (nat_eq t 0) f
     go false e = cc
+
+-- there is a state
+pub some_states : (m : Collection) → HasStates m → 0 < length m.states
+some_states m s = let q = s.every [] start_item (_, start) in let l = q.1 in omega arith
 
 pub goto_below : (m : Collection) (q x n : ℕ) → HasStates m → q < length m.states →
     x < (bare_of m).symbols → goto_in m q x ≡ Some n → n < length m.states

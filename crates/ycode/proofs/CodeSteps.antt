@@ -41,7 +41,7 @@ module _ (p : Policy) (v : TablesValue) (z : Sizes) (a : AreSizes v z) (usual se
     (rows : List (List Entry)) (c1 : Comb) (cells : AreCells p v (states_of v) usual sets s rows)
     (b : AreSets p v (states_of v) s) (i : IsSets s) (h1 : HasRows rows (tokens_of v + 1) c1)
     (tu : List ℕ) (trows : List (List Entry)) (c2 : Comb)
-    (t : AreTargets v (states_of v) tu trows) (h2 : HasRows trows (length tu) c2)
+    (t : AreTargets v (length tu) tu trows) (h2 : HasRows trows (states_of v) c2)
     (symbols lengths lefts numbers : List ℕ) (hs : HasStates v.built)
     (sl : length symbols ≡ states_of v) (se : (q : ℕ) → q < states_of v →
     StandsBefore v.built.grammar.bare (state_of v.built q) (slice_index symbols q)) (n r k : ℕ)
@@ -135,13 +135,16 @@ module _ (p : Policy) (v : TablesValue) (z : Sizes) (a : AreSizes v z) (usual se
   inside w ll fl fe ns = record {
     states = (
       h1.count ∙ cells.counts.2,
-      h2.count ∙ t.states,
       cells.counts.0,
       cells.counts.1,
     );
     symbols = sl;
     rules = (ll, fl);
-    targets = t.count;
+    targets = (
+      t.count,
+      let e = t.count in let f = h2.count in let k = t.made in
+          omega (arith, e, f, k),
+    );
     cells = (h1.beside, h2.beside);
     action = action_inside v z a p usual sets s rows c1 cells h1;
     bits = bits_inside v z a p usual sets s rows c1 cells h1 b i;
@@ -183,21 +186,33 @@ module _ (p : Policy) (v : TablesValue) (z : Sizes) (a : AreSizes v z) (usual se
   product : (a b m n : ℕ) → a ≤ m → b ≤ n → a * b ≤ m * n
   product a b m n h k = grind (arith, h, k)
 
+  few_states : states_of v ≤ most_states
+  few_states = let e = a.few_states in let f = a.states in omega (arith, e, f)
+
+  few_symbols : symbols_of v ≤ most_symbols
+  few_symbols = let e = a.few_symbols in let f = a.symbols in omega (arith, e, f)
+
+  fewer_tokens : tokens_of v < symbols_of v
+  fewer_tokens = let e = a.some_nonterminals in let f = a.symbols in let g = a.tokens in
+      omega (arith, e, f, g)
+
+  few_cells : length rows * (tokens_of v + 1) ≤ most_states * most_symbols
+  few_cells = product (length rows) (tokens_of v + 1) most_states most_symbols
+      (let e = cells.counts.2 in let f = few_states in omega (arith, e, f))
+      (let e = fewer_tokens in let f = few_symbols in omega (arith, e, f))
+
+  few_gotos : length trows * states_of v ≤ most_states * most_symbols
+  few_gotos = let e = product (length trows) (states_of v) most_symbols most_states
+      (let e = t.made in let f = t.count in let g = few_symbols in omega (arith, e, f, g))
+      few_states in omega (arith, e)
+
   short : length numbers ≤ 2 ^ 32 → AreShort v the_code
   short few =
-      let states : states_of v ≤ most_states = let e = a.few_states in let f = a.states in
-      omega (arith, e, f) in
-      let symbols_few : symbols_of v ≤ most_symbols = let e = a.few_symbols in
-      let f = a.symbols in omega (arith, e, f) in
-      let tokens : tokens_of v < symbols_of v = let e = a.some_nonterminals in let f = a.symbols in
-      let g = a.tokens in omega (arith, e, f, g) in
-      let targets : length tu ≤ most_symbols = let e = t.count in
-      omega (arith, e, symbols_few) in
-      let cells1 = product (length rows) (tokens_of v + 1) most_states most_symbols
-      (let e = cells.counts.2 in omega (arith, e, states))
-      (omega (arith, tokens, symbols_few)) in
-      let cells2 = product (length trows) (length tu) most_states most_symbols
-      (let e = t.states in omega (arith, e, states)) targets in
+      let states = few_states in
+      let symbols_few = few_symbols in
+      let tokens = fewer_tokens in
+      let cells1 = few_cells in
+      let cells2 = few_gotos in
       let span : s.span ≤ 1024 = let e = b.span in omega (arith, e, tokens, symbols_few) in
       let sets_few = product s.count s.span (most_states + 1) 1024
       (let e = b.few in omega (arith, e, states)) span in
@@ -227,14 +242,9 @@ module _ (p : Policy) (v : TablesValue) (z : Sizes) (a : AreSizes v z) (usual se
   small w ll fl le fe v1 v2 ns few = record {
     short = short few;
     rows = (
-      places_small v z a (tokens_of v + 1) rows c1 cells.counts.2
-          (let e = a.tokens in let f = a.few_symbols in let g = a.some_nonterminals in
-          omega (arith, e, f, g)) (omega arith)
-          h1,
-      places_small v z a (length tu) trows c2 t.states
-          (let e = t.count in let f = a.few_symbols in let g = a.symbols in omega (arith, e, f, g))
-          (let e = t.count in let f = a.some_nonterminals in let g = a.symbols in
-          let k = a.tokens in omega (arith, e, f, g, k)) h2,
+      places_small (tokens_of v + 1) rows c1 few_cells (omega arith) h1,
+      places_small (states_of v) trows c2 few_gotos
+          (let e = a.some_states in let f = a.states in omega (arith, e, f)) h2,
     );
     checks = (h1.checks, h2.checks);
     values = (v1, v2);

@@ -2,7 +2,6 @@
 use Rattle.std.proofs.Common.{ℕ, ◌≡◌, ◌+◌, ◌*◌, ◌/◌, ◌<◌, ◌≤◌, ◌^◌, ◌⊎◌, inl, inr, Bool, false}
 use Rattle.std.proofs.Common.{nat_eq, List, [], length, get_or, refl, sym, ap, ◌∙◌, subst, arith}
 use Rattle.std.proofs.Common.{Option, Some, None, is_some, slice_index, if◌then◌else◌, unwrap_or}
-use Rattle.std.proofs.Math.Nat.{mul-le-mul}
 use Rattle.std.proofs.lemmas.List.{get_or_past}
 use Rattle.std.proofs.lemmas.List.FromFn.{length-map-range_with_len, get_or-map-range_with_len}
 use Rattle.ysymbols.specs.Grammar.{most_symbols}
@@ -37,26 +36,22 @@ none_right u b None e f = ap (λ (x : Bool). if x then Reduce u else Error) e
 none_right u b (Some r) e f = ap (λ (x : Bool). if x then Reduce u else Error) e ∙
     ap Reduce (f r refl)
 
+-- a comb's places are small numbers
+pub places_small : (w : ℕ) (rows : List (List Entry)) (c : Comb) →
+    length rows * w ≤ most_states * most_symbols → 0 < w → HasRows rows w c →
+    AreAtMost (2 ^ 28) c.rows
+places_small w rows c many some h q = go (less q)
+  where
+    less : (q : ℕ) → (q < length c.rows) ⊎ (length c.rows ≤ q)
+    less q = grind arith
+
+    go : (q < length c.rows) ⊎ (length c.rows ≤ q) → slice_index c.rows q ≤ 2 ^ 28
+    go (inl l) =
+        let i = h.inside q 0 (let e = h.count in omega (arith, e, l)) some in
+        let s = h.short in omega (arith, i, s, many)
+    go (inr l) = let e = get_or_past c.rows q 0 l in omega (arith, e)
+
 module _ (v : TablesValue) (z : Sizes) (a : AreSizes v z) where
-  -- a comb's places are small numbers
-  pub places_small : (w : ℕ) (rows : List (List Entry)) (c : Comb) → length rows ≡ states_of v →
-      w ≤ most_symbols → 0 < w → HasRows rows w c → AreAtMost (2 ^ 28) c.rows
-  places_small w rows c len few some h q = go (less q)
-    where
-      less : (q : ℕ) → (q < length c.rows) ⊎ (length c.rows ≤ q)
-      less q = grind arith
-
-      many : length rows * w ≤ most_states * most_symbols
-      many = mul-le-mul {n₁ = length rows} {m₁ = w} {n₂ = most_states} {m₂ = most_symbols}
-          (let s = a.few_states in let e = a.states in omega (arith, s, e, len)) few
-
-      go : (q < length c.rows) ⊎ (length c.rows ≤ q) → slice_index c.rows q ≤ 2 ^ 28
-      go (inl l) =
-          let i = h.inside q 0 (let e = h.count in omega (arith, e, l)) some in
-          let s = h.short in
-          let m = many in omega (arith, i, s, m)
-      go (inr l) = let e = get_or_past c.rows q 0 l in omega (arith, e)
-
   module _ (p : Policy) (usual sets : List ℕ) (s : SetsValue) (rows : List (List Entry)) (c : Comb)
       (cells : AreCells p v (states_of v) usual sets s rows)
       (h : HasRows rows (tokens_of v + 1) c) where
@@ -156,38 +151,38 @@ module _ (v : TablesValue) (z : Sizes) (a : AreSizes v z) where
             (λ t k e. (let f : None ≡ Some k = e in absurd (cc)))
 
   module _ (usual : List ℕ) (rows : List (List Entry)) (c : Comb)
-      (t : AreTargets v (states_of v) usual rows) (h : HasRows rows (length usual) c) where
+      (t : AreTargets v (length usual) usual rows) (h : HasRows rows (states_of v) c) where
     pub goto_is : (q x n : ℕ) → q < states_of v → tokens_of v + x < symbols_of v →
         goto_in v.built q (tokens_of v + x) ≡ Some n →
-        unwrap_or (held c q x) (slice_index usual x) ≡ n
+        unwrap_or (held c x q) (slice_index usual x) ≡ n
     goto_is q x n l m e =
         let low : x < length usual = (let k = t.count in omega (arith, k, m)) in
-        ap (λ o. unwrap_or o (slice_index usual x)) (h.cells q x
-        (let k = t.states in omega (arith, k, l)) low ∙ t.entries q x l low)
+        ap (λ o. unwrap_or o (slice_index usual x)) (h.cells x q
+        (let k = t.made in omega (arith, k, low)) l ∙ t.entries q x l low)
         ∙ goto_right (slice_index usual x) n (goto_in v.built q (tokens_of v + x)) e
 
     pub goto_in_range : (q x n : ℕ) → q < states_of v → tokens_of v + x < symbols_of v →
         goto_in v.built q (tokens_of v + x) ≡ Some n →
-        unwrap_or (held c q x) (slice_index usual x) < states_of v
+        unwrap_or (held c x q) (slice_index usual x) < states_of v
     goto_in_range q x n l m e = let i = goto_is q x n l m e in
         let f = a.gotos q (tokens_of v + x) n l m e in omega (arith, i, f)
 
     pub goto_inside : (q x : ℕ) → q < states_of v → tokens_of v + x < symbols_of v →
-        place_of c q x < length c.checks
-    goto_inside q x l m = h.inside q x (let k = t.states in omega (arith, k, l))
-        (let k = t.count in omega (arith, k, m))
+        place_of c x q < length c.checks
+    goto_inside q x l m = h.inside x q (let k = t.made in let n = t.count in
+        omega (arith, k, n, m)) l
 
     pub targets_most : NumbersAtMost (states_of v) rows
-    targets_most q = go (less q)
+    targets_most x = go (less x)
       where
-        less : (q : ℕ) → (q < states_of v) ⊎ (states_of v ≤ q)
-        less q = grind arith
+        less : (x : ℕ) → (x < length usual) ⊎ (length usual ≤ x)
+        less x = grind arith
 
-        go : (q < states_of v) ⊎ (states_of v ≤ q) →
-            EntriesAtMost (states_of v) (get_or rows q [])
-        go (inl l) = t.most q l
+        go : (x < length usual) ⊎ (length usual ≤ x) →
+            EntriesAtMost (states_of v) (get_or rows x [])
+        go (inl l) = t.most x l
         go (inr l) = subst (EntriesAtMost (states_of v))
-            (sym (get_or_past rows q [] (let e = t.states in omega (arith, e, l))))
+            (sym (get_or_past rows x [] (let e = t.made in omega (arith, e, l))))
             (λ i k e. (let f : None ≡ Some k = e in absurd (cc)))
 
 -- the usual rule of a state that reduces by default, and of another

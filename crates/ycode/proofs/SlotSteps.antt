@@ -1,6 +1,6 @@
 -- Bits of words as slots.
 use Rattle.std.proofs.Common.{ℕ, ◌≡◌, ◌≢◌, ◌+◌, ◌-◌, ◌*◌, ◌/◌, ◌%◌, ◌^◌, ◌<◌, ◌≤◌, ◌⊎◌, inl, inr}
-use Rattle.std.proofs.Common.{List, length, get_or, set, sym, ap, ◌∙◌, subst, arith, max, bit_or}
+use Rattle.std.proofs.Common.{List, length, set, sym, ap, ◌∙◌, subst, arith, max, bit_or}
 use Rattle.std.proofs.Common.{slice_index}
 use Rattle.std.specs.Int.{bit_at, w64}
 use Rattle.std.proofs.lemmas.Bool.{cases_eq}

@@ -1,11 +1,11 @@
 -- The tokens of numbers, as a list.
-use Rattle.std.proofs.Common.{ℕ, zero, suc, ◌≡◌, ◌≢◌, ◌+◌, ◌<◌, ◌≤◌, ◌⊎◌, inl, inr, Bool, true}
+use Rattle.std.proofs.Common.{ℕ, zero, suc, ◌≡◌, ◌+◌, ◌<◌, ◌≤◌, ◌⊎◌, inl, inr, Bool, true}
 use Rattle.std.proofs.Common.{false}
-use Rattle.std.proofs.Common.{not, nat_eq, nat_lt, max, List, [], ◌∷◌, length, get_or, take, refl}
+use Rattle.std.proofs.Common.{not, nat_eq, max, List, [], ◌∷◌, length, get_or, take, refl}
 use Rattle.std.proofs.Common.{sym}
-use Rattle.std.proofs.Common.{ap, ◌∙◌, subst, arith, Option, Some, None, slice_get, slice_index}
+use Rattle.std.proofs.Common.{ap, ◌∙◌, arith, Some, None, slice_get, slice_index}
 use Rattle.std.proofs.Common.{if◌then◌else◌, Less, Equal, Greater}
-use Rattle.std.specs.List.{fold, position_or_len, range_with_len}
+use Rattle.std.specs.List.{position_or_len}
 use Rattle.std.specs.Ordering.{is_lt, nat_cmp, ord_max}
 use Rattle.std.proofs.lemmas.Bool.{cases_lt, lt-ltb, le-ltb, eqb-true, eqb-false, not-true}
 use Rattle.std.proofs.lemmas.Bool.{not-false}

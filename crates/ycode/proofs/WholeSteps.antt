@@ -2,7 +2,7 @@
 use Rattle.std.proofs.Common.{ℕ, ◌≡◌, ◌+◌, ◌-◌, ◌<◌, ◌∙◌, List, [], length, map, ap, arith}
 use Rattle.std.proofs.Common.{slice_index}
 use Rattle.std.specs.List.{range_with_len}
-use Rattle.std.proofs.lemmas.List.FromFn.{fill_by_all}
+use Rattle.std.proofs.lemmas.List.FromFn.{fill_by_all, get_or-map-range_with_len}
 use Rattle.ysymbols.specs.Grammar.{left_of, body_of}
 use Rattle.ylalr.specs.Collection.{state_of}
 use Rattle.ytables.specs.Tables.{TablesValue}
@@ -15,8 +15,9 @@ use Rattle.ycode.specs.Cells.{set_number, sets_to, AreCells, AreSets}
 use Rattle.ycode.specs.Entries.{entries_for}
 use Rattle.ycode.specs.Layout.{comb_for}
 use Rattle.ycode.specs.Symbols.{symbol_for}
-use Rattle.ycode.specs.Targets.{AreTargets, usual_targets, goto_entries}
+use Rattle.ycode.specs.Targets.{AreTargets, gotos_over, goto_entries}
 use Rattle.ycode.specs.Translation.{tokens_for}
+use Rattle.ycode.specs.Usual.{most_usual}
 use Rattle.ycode.specs.Whole.{code_for, action_rows, goto_rows, states_in}
 
 module _ (p : Policy) (v : TablesValue) (usual sets : List ℕ) (s : SetsValue) (rows : List (List Entry))
@@ -35,9 +36,9 @@ module _ (p : Policy) (v : TablesValue) (usual sets : List ℕ) (s : SetsValue) 
       ap (λ (x : ℕ). entries_for (wanted_at p v x q) (tokens_of v)) (cells.rules q l).is)
 
   module _ (b : AreSets p v (states_of v) s) (tu : List ℕ) (trows : List (List Entry))
-      (t : AreTargets v (states_of v) tu trows) (c1 c2 : Comb)
+      (t : AreTargets v (length tu) tu trows) (c1 c2 : Comb)
       (e1 : c1 ≡ comb_for (tokens_of v + 1) rows)
-      (e2 : c2 ≡ comb_for (symbols_of v - tokens_of v) trows) (n r k : ℕ) (en : n ≡ states_of v)
+      (e2 : c2 ≡ comb_for (states_of v) trows) (n r k : ℕ) (en : n ≡ states_of v)
       (er : r ≡ rules_of v) (ek : k ≡ tokens_of v) (symbols lengths lefts numbers : List ℕ)
       (se : symbols ≡ map (λ q. symbol_for v.built.grammar.bare (state_of v.built q)) (states_in v))
       (ll : length lengths ≡ rules_of v) (le : (x : ℕ) → x < rules_of v →
@@ -45,15 +46,24 @@ module _ (p : Policy) (v : TablesValue) (usual sets : List ℕ) (s : SetsValue) 
       (fl : length lefts ≡ rules_of v) (fe : (x : ℕ) → x < rules_of v →
       tokens_of v + slice_index lefts x ≡ left_of v.built.grammar.bare x)
       (ne : numbers ≡ tokens_for v.built.grammar.numbers) where
+    target_is : (x : ℕ) → x < symbols_of v - tokens_of v →
+        slice_index tu x ≡ most_usual (gotos_over v x)
+    target_is x l = ap (λ (u : List ℕ). slice_index u x) t.targets ∙
+        get_or-map-range_with_len (λ (k : ℕ). most_usual (gotos_over v k)) 0
+        (symbols_of v - tokens_of v) x x 0 l (omega arith)
+
     trows_are : trows ≡ goto_rows v
-    trows_are = fill_by_all (goto_entries v (usual_targets v)) trows (states_of v) [] t.states
-        (λ q l. t.lists q l ∙ ap (λ (u : List ℕ). goto_entries v u q) t.targets)
+    trows_are = fill_by_all (λ x. goto_entries v (most_usual (gotos_over v x)) x) trows
+        (symbols_of v - tokens_of v) []
+        (let e = t.made in let f = t.count in omega (arith, e, f))
+        (λ x l. t.lists x (let f = t.count in omega (arith, f, l)) ∙
+        ap (λ (u : ℕ). goto_entries v u x) (target_is x l))
 
     actions_are : c1 ≡ comb_for (tokens_of v + 1) (action_rows p v)
     actions_are = e1 ∙ ap (comb_for (tokens_of v + 1)) rows_are
 
-    gotos_are : c2 ≡ comb_for (symbols_of v - tokens_of v) (goto_rows v)
-    gotos_are = e2 ∙ ap (comb_for (symbols_of v - tokens_of v)) trows_are
+    gotos_are : c2 ≡ comb_for (states_of v) (goto_rows v)
+    gotos_are = e2 ∙ ap (comb_for (states_of v)) trows_are
 
     bits_are : s.bytes ≡ (sets_to p v (states_of v)).bytes
     bits_are = ap (λ (x : SetsValue). x.bytes) b.are

@@ -30,6 +30,7 @@ pub record AreSizes (v : TablesValue) (s : Sizes) : Type 0 where
   pub few_states : s.states ≤ most_states
   pub few_symbols : s.symbols ≤ most_symbols
   pub few_rules : s.rules ≤ most_rules
+  pub some_states : 0 < s.states
   pub some_tokens : 0 < s.tokens
   pub some_nonterminals : s.tokens < s.symbols
   pub some_rules : 0 < s.rules

@@ -1,4 +1,4 @@
--- One list of cells that has the rows of all states, each cell with the column that it is of.
+-- One list of cells that has rows of numbers, each cell with the column that it is of.
 use Rattle.std.specs.Prelude.{ℕ, ◌≡◌, ◌+◌, ◌*◌, ◌<◌, ◌≤◌, List, [], length, Option, Some, None}
 use Rattle.std.specs.Prelude.{if◌then◌else◌, nat_eq, slice_index, slice_index_or}
 use Rattle.ycode.specs.declared.entry.Entry.{Entry}
@@ -10,11 +10,11 @@ abbrev pub held_at : List ℕ → List ℕ → ℕ → ℕ → Option ℕ
 held_at checks values i t =
     if nat_eq (slice_index checks i) t then Some (slice_index values i) else None
 
--- the place that is read for the column t of state q
+-- the place that is read for the column t of row q
 abbrev pub place_of : Comb → ℕ → ℕ → ℕ
 place_of c q t = slice_index c.rows q + t
 
--- the number that state q has at the column t
+-- the number that row q has at the column t
 abbrev pub held : Comb → ℕ → ℕ → Option ℕ
 held c q t = held_at c.checks c.values (place_of c q t) t
 

@@ -45,9 +45,10 @@ is_explicit error (Some n) = nat_eq n error
 abbrev pub read_refusal : Code → ℕ → ℕ → Bool
 read_refusal c q t = is_explicit (c.states + c.rules) (held c.actions q t)
 
--- the state that state q goes to over nonterminal x; the first nonterminal is 0
+-- the state that state q goes to over nonterminal x, whose row is read at the column of the state; the
+-- first nonterminal is 0
 abbrev pub read_goto : Code → ℕ → ℕ → ℕ
-read_goto c q x = unwrap_or (held c.gotos q x) (slice_index c.targets x)
+read_goto c q x = unwrap_or (held c.gotos x q) (slice_index c.targets x)
 
 -- the token with this number, or the number of tokens
 abbrev pub read_token : Code → ℕ → ℕ

@@ -60,11 +60,12 @@ pub record Reads (p : Policy) (v : TablesValue) (c : Code) : Type 0 where
 
 -- Each index that is formed for a state, a token, a nonterminal and a rule lies in its array.
 pub record IsInside (v : TablesValue) (c : Code) : Type 0 where
-  pub states : (length c.actions.rows ≡ states_of v) × (length c.gotos.rows ≡ states_of v) ×
-      (length c.usual ≡ states_of v) × (length c.sets ≡ states_of v)
+  pub states : (length c.actions.rows ≡ states_of v) × (length c.usual ≡ states_of v) ×
+      (length c.sets ≡ states_of v)
   pub symbols : length c.symbols ≡ states_of v
   pub rules : (length c.lengths ≡ rules_of v) × (length c.lefts ≡ rules_of v)
-  pub targets : tokens_of v + length c.targets ≡ symbols_of v
+  pub targets : (tokens_of v + length c.targets ≡ symbols_of v) ×
+      (tokens_of v + length c.gotos.rows ≡ symbols_of v)
   pub cells : (length c.actions.checks ≤ length c.actions.values) ×
       (length c.gotos.checks ≤ length c.gotos.values)
   -- for each token, and for what is none
@@ -73,7 +74,7 @@ pub record IsInside (v : TablesValue) (c : Code) : Type 0 where
   pub bits : (q t : ℕ) → q < states_of v → t ≤ tokens_of v →
       slice_index c.sets q * c.span + t / 8 < length c.bits
   pub goto : (q x : ℕ) → q < states_of v → tokens_of v + x < symbols_of v →
-      place_of c.gotos q x < length c.gotos.checks
+      place_of c.gotos x q < length c.gotos.checks
   -- what is read is a state, a rule, a nonterminal or a token
   pub next : (q t : ℕ) → q < states_of v → t < tokens_of v →
       Fits (states_of v) (rules_of v) (read_action c q t)
@@ -99,7 +100,7 @@ pub record AreSmall (v : TablesValue) (c : Code) : Type 0 where
   pub short : AreShort v c
   pub rows : AreAtMost (2 ^ 28) c.actions.rows × AreAtMost (2 ^ 28) c.gotos.rows
   pub checks : AreAtMost (tokens_of v + 1) c.actions.checks ×
-      AreAtMost (length c.targets) c.gotos.checks
+      AreAtMost (states_of v) c.gotos.checks
   pub values : AreAtMost (states_of v + rules_of v) c.actions.values ×
       AreAtMost (states_of v) c.gotos.values
   pub usual : AreAtMost (rules_of v) c.usual

@@ -24,20 +24,20 @@ abbrev pub usual_targets : TablesValue → List ℕ
 usual_targets v = map (λ x. most_usual (gotos_over v x))
     (range_with_len 0 (symbols_of v - tokens_of v))
 
--- the entries of the gotos of state q beside usual targets
-abbrev pub goto_entries : TablesValue → List ℕ → ℕ → List Entry
-goto_entries v usual q = entries_for
-    (λ x. beside (slice_index usual x) (goto_in v.built q (tokens_of v + x))) (length usual)
+-- the entries of the gotos over nonterminal x beside this usual target, at the columns of their states
+abbrev pub goto_entries : TablesValue → ℕ → ℕ → List Entry
+goto_entries v usual x = entries_for
+    (λ q. beside usual (goto_in v.built q (tokens_of v + x))) (states_of v)
 
--- the lists have the gotos of the states below n: for each nonterminal its usual target, and for
--- each state its other gotos
+-- the lists have for each nonterminal its usual target, and for those below n their other gotos
 pub record AreTargets (v : TablesValue) (n : ℕ) (usual : List ℕ) (rows : List (List Entry)) :
     Type 0 where
   pub count : tokens_of v + length usual ≡ symbols_of v
-  pub states : length rows ≡ n
+  pub made : length rows ≡ n
   pub below : AreAtMost (states_of v) usual
-  pub entries : (q x : ℕ) → q < n → x < length usual → entry_at (slice_index_or rows q []) x ≡
+  pub entries : (q x : ℕ) → q < states_of v → x < n → entry_at (slice_index_or rows x []) q ≡
       beside (slice_index usual x) (goto_in v.built q (tokens_of v + x))
-  pub most : (q : ℕ) → q < n → EntriesAtMost (states_of v) (slice_index_or rows q [])
-  pub lists : (q : ℕ) → q < n → slice_index_or rows q [] ≡ goto_entries v usual q
+  pub most : (x : ℕ) → x < n → EntriesAtMost (states_of v) (slice_index_or rows x [])
+  pub lists : (x : ℕ) → x < n → slice_index_or rows x [] ≡
+      goto_entries v (slice_index usual x) x
   pub targets : usual ≡ usual_targets v

@@ -13,8 +13,9 @@ use Rattle.ycode.specs.Cells.{usual_rule, set_number, sets_to}
 use Rattle.ycode.specs.Entries.{entries_for}
 use Rattle.ycode.specs.Layout.{comb_for}
 use Rattle.ycode.specs.Symbols.{symbol_for}
-use Rattle.ycode.specs.Targets.{usual_targets, goto_entries}
+use Rattle.ycode.specs.Targets.{gotos_over, usual_targets, goto_entries}
 use Rattle.ycode.specs.Translation.{tokens_for}
+use Rattle.ycode.specs.Usual.{most_usual}
 
 -- the numbers of the states
 abbrev pub states_in : TablesValue → List ℕ
@@ -28,9 +29,10 @@ rules_in v = range_with_len 0 (rules_of v)
 abbrev pub action_rows : Policy → TablesValue → List (List Entry)
 action_rows p v = map (λ q. entries_for (wanted_at p v (usual_rule p v q) q) (tokens_of v)) (states_in v)
 
--- the entries of the gotos of each state beside the usual targets
+-- the entries of the gotos over each nonterminal beside its usual target
 abbrev pub goto_rows : TablesValue → List (List Entry)
-goto_rows v = map (goto_entries v (usual_targets v)) (states_in v)
+goto_rows v = map (λ x. goto_entries v (most_usual (gotos_over v x)) x)
+    (range_with_len 0 (symbols_of v - tokens_of v))
 
 -- the arrays of the parser by these tables under a policy of default reductions
 unfoldable pub code_for : Policy → TablesValue → Code
@@ -43,7 +45,7 @@ code_for p v = record {
   sets = map (λ q. set_number p v (sets_to p v (q + 1)) q) (states_in v);
   span = span_of v;
   bits = (sets_to p v (states_of v)).bytes;
-  gotos = comb_for (symbols_of v - tokens_of v) (goto_rows v);
+  gotos = comb_for (states_of v) (goto_rows v);
   targets = usual_targets v;
   symbols = map (λ q. symbol_for (bare_of v.built) (state_of v.built q)) (states_in v);
   lengths = map (λ r. length (body_of (bare_of v.built) r)) (rules_in v);

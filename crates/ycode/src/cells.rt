@@ -3,8 +3,8 @@
 
 ghost use Rattle.std.specs.Prelude.{ℕ, ◌≡◌, ◌<◌, ◌≤◌, ◌+◌, IfOk, OnOk, IfSome, None};
 ghost use Rattle.ycode.specs.Bits.{KeepsSets, AreListed};
-ghost use Rattle.ycode.specs.Cells.{number_for, wanted_at, members_in, IsUsual, IsSetOf};
-ghost use Rattle.ycode.specs.Cells.{AreCells, AreSets, AreSizes, with_set_in, set_number};
+ghost use Rattle.ycode.specs.Cells.{number_for, wanted_at, members_in, IsUsual, IsSetOf, AreCells};
+ghost use Rattle.ycode.specs.Cells.{AreSets, AreSizes, with_set_in, set_number};
 ghost use Rattle.ycode.specs.Entries.{entry_at, entries_for, EntriesAtMost};
 ghost use Rattle.ycode.specs.Policies.{rule_for};
 ghost use Rattle.ycode.specs.States.{Fits, states_of, tokens_of, rules_of};

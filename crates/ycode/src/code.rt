@@ -12,7 +12,7 @@ use crate::rules::{lefts_of, lengths_of};
 use crate::sizes::sizes_of;
 use crate::symbols::symbols_of;
 use crate::targets::all_targets;
-use crate::translate::translation_of;
+use crate::translate::translation;
 use std::alloc::{AllocError, Global};
 use ysymbols::let_go;
 use ytables::Tables;
@@ -39,9 +39,9 @@ pub struct Code {
     pub span: usize,
     /// The sets: bit `t % 8` of byte `set * span + t / 8` says whether the token `t` is in a set.
     pub bits: Numbers,
-    /// The gotos of states, at the columns of nonterminals; the first nonterminal has column 0.
+    /// The gotos over nonterminals, at the columns of states; the first nonterminal has row 0.
     pub gotos: Comb,
-    /// The goto over each nonterminal where a state has none of its own.
+    /// The goto over each nonterminal where it has none at the column of a state.
     pub targets: Numbers,
     /// The symbol over which all gotos and shifts to a state lead.
     pub symbols: Numbers,
@@ -86,11 +86,11 @@ pub fn code_of(alloc: Global, tables: &Tables, policy: Policy) -> Result<Code, A
         sets: Numbers::of(cells.sets),
         span: cells.known.span(),
         bits: Numbers::of(cells.known.into_bytes()),
-        gotos: comb_of(alloc, &targets.rows, sizes.symbols - sizes.tokens)?,
+        gotos: comb_of(alloc, &targets.rows, sizes.states)?,
         targets: Numbers::of(targets.usual),
         symbols: symbols_of(alloc, tables, &sizes)?,
         lengths: lengths_of(alloc, grammar)?,
         lefts: lefts_of(alloc, grammar, sizes.tokens)?,
-        numbers: translation_of(alloc, grammar, sizes.tokens)?,
+        numbers: translation(alloc, grammar, sizes.tokens)?,
     })
 }

@@ -1,6 +1,6 @@
 //! Lists of numbers, each once, numbered in the order in which they first come.
 
-ghost use Rattle.std.specs.Prelude.{◌≡◌, ◌++◌, ◌∷◌, [], false, length, OnOk, OnErr};
+ghost use Rattle.std.specs.Prelude.{◌≡◌, ◌++◌, ◌∷◌, [], false, OnOk, OnErr};
 ghost use Rattle.ysymbols.specs.Names.{find_in, is_among};
 
 use std::alloc::{AllocError, Global};
@@ -50,7 +50,7 @@ impl Lists {
         self.numbers.get(list).copied()
     }
 
-    /// Adds a list that is not there behind the others. It fails only when memory runs out, and
+    /// Adds a list that is not there after the others. It fails only when memory runs out, and
     /// then adds nothing.
     pub fn push(&mut self, alloc: Global, list: &[usize]) -> Result<(), AllocError>
         requires { is_among self.old list.now ≡ false }

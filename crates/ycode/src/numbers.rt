@@ -33,8 +33,7 @@ impl Numbers {
         self.list.as_slice()
     }
 
-    /// The greatest of the numbers, by which the type of the array is chosen; 0 where there are
-    /// none.
+    /// The greatest of the numbers, which chooses the type of the array; 0 where there are none.
     pub fn greatest(&self) -> usize
         ensures bound { All (λ n. n ≤ result) self.now }
         ensures among { (result ≡ 0) ⊎ Contains self.now result }

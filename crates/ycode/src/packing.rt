@@ -1,11 +1,11 @@
 //! Rows that are put into one list of cells.
 
-ghost use Rattle.std.specs.Prelude.{ℕ, ◌≡◌, ◌+◌, ◌<◌, ◌≤◌, ◌^◌, [], true, false, length, max, All};
+ghost use Rattle.std.specs.Prelude.{◌≡◌, ◌+◌, ◌<◌, ◌≤◌, ◌^◌, [], true, false, length, max, All};
 ghost use Rattle.std.specs.Prelude.{IfOk, OnOk, vec_len, slice_index_or};
 ghost use Rattle.std.specs.List.{list_any};
 ghost use Rattle.ycode.specs.Combs.{AreAtMost};
-ghost use Rattle.ycode.specs.Packing.{IsPacking, IsPut, IsGrown, IsWritten, IsEven};
-ghost use Rattle.ycode.specs.Packing.{is_taken, can_begin, columns_in, with_row};
+ghost use Rattle.ycode.specs.Packing.{IsPacking, IsPut, IsGrown, IsWritten, IsEven, is_taken};
+ghost use Rattle.ycode.specs.Packing.{can_begin, columns_in, with_row};
 
 use std::alloc::{AllocError, Global};
 use std::marker::Model;

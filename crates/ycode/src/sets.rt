@@ -1,13 +1,12 @@
 //! Sets of tokens as bits, each set once.
 
-ghost use Rattle.std.specs.Prelude.{ℕ, ◌≡◌, ◌+◌, ◌*◌, ◌/◌, ◌<◌, ◌≤◌, ◌^◌, ◌++◌, [], true, false};
-ghost use Rattle.std.specs.Prelude.{length};
+ghost use Rattle.std.specs.Prelude.{ℕ, ◌≡◌, ◌+◌, ◌*◌, ◌/◌, ◌<◌, ◌≤◌, ◌^◌, [], true, false, length};
 ghost use Rattle.std.specs.Prelude.{All, IfOk, OnOk, replicate, nat_eq, slice_index_or};
 ghost use Rattle.std.specs.Int.{bit_at};
 ghost use Rattle.ysymbols.specs.Grammar.{most_symbols};
 ghost use Rattle.ysymbols.specs.Names.{is_among};
-ghost use Rattle.ycode.specs.Bits.{AreBits, HasSet, IsSets, KeepsSets, AreListed};
-ghost use Rattle.ycode.specs.Bits.{byte_for, bytes_for, and_set, with_set, number_of};
+ghost use Rattle.ycode.specs.Bits.{AreBits, HasSet, IsSets, KeepsSets, AreListed, byte_for};
+ghost use Rattle.ycode.specs.Bits.{bytes_for, and_set, with_set, number_of};
 
 use crate::lists::Lists;
 use std::alloc::{AllocError, Global};
@@ -117,8 +116,7 @@ impl Sets {
         })
     }
 
-    /// Adds a set behind the others. It fails only when memory runs out; what the sets are then is
-    /// not said.
+    /// Adds a set. It fails only when memory runs out; what the sets are then is not said.
     fn add(&mut self, alloc: Global, set: &[usize]) -> Result<usize, AllocError>
         requires fresh { is_among self.old.others set.now ≡ false }
         requires len { length set.now ≡ self.old.span }

@@ -1,6 +1,6 @@
 //! The symbol over which gotos lead to each state.
 
-ghost use Rattle.std.specs.Prelude.{ℕ, ◌≡◌, ◌<◌, ◌≤◌, length, map, IfOk, slice_index};
+ghost use Rattle.std.specs.Prelude.{ℕ, ◌≡◌, ◌<◌, length, map, IfOk, slice_index};
 ghost use Rattle.std.specs.List.{range_with_len};
 ghost use Rattle.ylalr.specs.Collection.{state_of};
 ghost use Rattle.ylalr.specs.Sets.{InRange};

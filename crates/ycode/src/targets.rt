@@ -1,6 +1,6 @@
 //! The gotos: the most usual target of each nonterminal, and the explicit entries of all others.
 
-ghost use Rattle.std.specs.Prelude.{ℕ, ◌≡◌, ◌<◌, ◌+◌, length, IfOk, slice_index};
+ghost use Rattle.std.specs.Prelude.{ℕ, ◌≡◌, ◌<◌, ◌+◌, length, IfOk};
 ghost use Rattle.ylalr.specs.Collection.{goto_in};
 ghost use Rattle.ycode.specs.Cells.{AreSizes, states_of, tokens_of, symbols_of};
 ghost use Rattle.ycode.specs.Combs.{AreAtMost};
@@ -19,7 +19,7 @@ use ytables::Tables;
 pub struct Targets {
     /// The most usual target of each nonterminal.
     pub usual: Vec<usize>,
-    /// The entries of each state.
+    /// The entries of each nonterminal, at the columns of states.
     pub rows: Vec<Sequence<Entry>>,
 }
 
@@ -67,41 +67,39 @@ fn beside(goto: Option<usize>, usual: usize) -> Option<usize>
     }
 }
 
-/// The entries of state `q` beside the usual targets.
+/// The entries of a nonterminal beside this usual target.
 fn entries_of(
     alloc: Global,
     tables: &Tables,
     sizes: &Sizes,
-    usual: &[usize],
-    q: usize,
+    usual: usize,
+    x: usize,
 ) -> Result<Sequence<Entry>, AllocError>
     requires sizes { AreSizes tables.now sizes.now }
-    requires state { q < states_of tables.now }
-    requires symbols { tokens_of tables.now + length usual.now ≡ symbols_of tables.now }
-    ensures entries { IfOk result (λ es. (x : ℕ) → x < length usual.now → entry_at es x
-        ≡ beside (slice_index usual.now x)
-        (goto_in tables.now.built q (tokens_of tables.now + x))) }
+    requires nonterminal { tokens_of tables.now + x < symbols_of tables.now }
+    ensures entries { IfOk result (λ es. (q : ℕ) → q < states_of tables.now → entry_at es q
+        ≡ beside usual (goto_in tables.now.built q (tokens_of tables.now + x))) }
     ensures most { IfOk result (EntriesAtMost (states_of tables.now)) }
-    ensures list { IfOk result (λ es. es ≡ goto_entries tables.now usual.now q) }
+    ensures list { IfOk result (λ es. es ≡ goto_entries tables.now usual x) }
 {
     let mut entries = Sequence::new(alloc);
-    for x in 0..usual.len() {
+    for q in 0..sizes.states {
         let goto = tables.goto(q, sizes.tokens + x);
-        push_number(&mut entries, x, beside(goto, usual[x]))?;
+        push_number(&mut entries, q, beside(goto, usual))?;
     }
     Ok(entries)
 }
 
-/// The gotos of all states.
+/// The gotos over all nonterminals.
 pub fn all_targets(alloc: Global, tables: &Tables, sizes: &Sizes) -> Result<Targets, AllocError>
     requires { AreSizes tables.now sizes.now }
-    ensures { IfOk result (λ t. AreTargets tables.now (states_of tables.now) t.usual.items
+    ensures { IfOk result (λ t. AreTargets tables.now (length t.usual.items) t.usual.items
         t.rows.items) }
 {
     let usual = usual_targets(alloc, tables, sizes)?;
-    let mut rows = Vec::with_capacity(alloc, sizes.states)?;
-    for q in 0..sizes.states {
-        let entries = entries_of(alloc, tables, sizes, &usual, q)?;
+    let mut rows = Vec::with_capacity(alloc, usual.len())?;
+    for x in 0..usual.len() {
+        let entries = entries_of(alloc, tables, sizes, usual[x], x)?;
         rows.push(entries)?;
     }
     Ok(Targets { usual, rows })

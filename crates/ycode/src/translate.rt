@@ -1,7 +1,6 @@
 //! Which token a number of the lexer is.
 
-ghost use Rattle.std.specs.Prelude.{ℕ, ◌≡◌, ◌≢◌, ◌<◌, ◌≤◌, ◌+◌, ◌^◌, Some, length, IfOk, slice_get};
-ghost use Rattle.std.specs.Prelude.{slice_index};
+ghost use Rattle.std.specs.Prelude.{ℕ, ◌≡◌, ◌<◌, ◌≤◌, ◌+◌, ◌^◌, Some, length, IfOk, slice_get};
 ghost use Rattle.ycode.specs.Combs.{AreAtMost};
 ghost use Rattle.ycode.specs.Translation.{TranslatesTo, bound_for, tokens_for};
 
@@ -28,11 +27,7 @@ fn bound_of(grammar: &Grammar, tokens: usize) -> usize
 
 /// For each number up to the greatest of a token, the token that has it, or the number of tokens
 /// where none has. It fails only when memory runs out.
-pub fn translation_of(
-    alloc: Global,
-    grammar: &Grammar,
-    tokens: usize,
-) -> Result<Numbers, AllocError>
+pub fn translation(alloc: Global, grammar: &Grammar, tokens: usize) -> Result<Numbers, AllocError>
     requires { tokens ≡ grammar.now.bare.tokens }
     ensures translates { IfOk result (TranslatesTo tokens grammar.now.numbers tokens) }
     ensures most { IfOk result (λ v. AreAtMost tokens v) }

@@ -1,8 +1,7 @@
 //! The most usual of some values.
 
 ghost use Rattle.std.specs.Prelude.{ℕ, ◌≡◌, ◌<◌, ◌≤◌, Some, None, IfOk, slice_index_or};
-ghost use Rattle.ycode.specs.Usual.{commonest, counts_in, greatest_place, most_usual};
-ghost use Rattle.ycode.specs.Usual.{where_some};
+ghost use Rattle.ycode.specs.Usual.{commonest, counts_in, greatest_place, most_usual, where_some};
 
 use std::alloc::{AllocError, Global};
 
@@ -32,11 +31,7 @@ pub fn most_usual(
 }
 
 /// How many places have each value below `bound`.
-fn counts_of(
-    alloc: Global,
-    values: &[Option<usize>],
-    bound: usize,
-) -> Result<Vec<usize>, AllocError>
+fn counts(alloc: Global, values: &[Option<usize>], bound: usize) -> Result<Vec<usize>, AllocError>
     requires { (i n : ℕ) → slice_index_or values.now i None ≡ Some n → n < bound }
     ensures { IfOk result (λ v. v.items ≡ counts_in bound values.now) }
 {
@@ -82,6 +77,6 @@ pub fn commonest(
     requires { (i n : ℕ) → slice_index_or values.now i None ≡ Some n → n < bound }
     ensures { IfOk result (λ o. o ≡ commonest bound values.now) }
 {
-    let counts = counts_of(alloc, values, bound)?;
-    Ok(where_some(&counts, greatest_place(&counts)))
+    let found = counts(alloc, values, bound)?;
+    Ok(where_some(&found, greatest_place(&found)))
 }

@@ -322,8 +322,7 @@ pub const REDUCED: &str = r##"
       YY_SYMBOL_PRINT ("-> \44\44 =", yylhs);
       yypop_ (yym);
       yym = 0;
-      yystate = yystates_.back ();
-      YYGOTO (yystate, yystate, yyleft);
+      YYGOTO (yystate, yystates_.back (), yyleft);
       yypush_ (static_cast<state_type> (yystate), yylhs);
     }
     goto yynewstate;

@@ -24,6 +24,7 @@ yygo (yyway *yywayp, int yyrulep)
 {
   int yycount = yylen[yyrulep];
   int yyleft = yylhs[yyrulep];
+  int yybase;
   int yystate;
   if (yycount <= yywayp->yyup)
     yywayp->yyup -= yycount;
@@ -32,8 +33,8 @@ yygo (yyway *yywayp, int yyrulep)
       yywayp->yybelow -= yycount - yywayp->yyup;
       yywayp->yyup = 0;
     }
-  yystate = yywayp->yyup ? yywayp->yymade[yywayp->yyup - 1] : *yywayp->yybelow;
-  YYGOTO (yystate, yystate, yyleft);
+  yybase = yywayp->yyup ? yywayp->yymade[yywayp->yyup - 1] : *yywayp->yybelow;
+  YYGOTO (yystate, yybase, yyleft);
   if (yywayp->yyup == YYLOOKDEPTH)
     return -1;
   yywayp->yymade[yywayp->yyup++] = YY_CAST (yystate_number, yystate);

@@ -18,10 +18,10 @@ pub const READING: &str = r##"
 /* Whether a state that has no number of its own for a token makes its usual reduction. */
 #define YYMEMBER(state, token) \
   ((yybits[yyset[state] * YYSETSIZE + ((token) >> 3)] >> ((token) & 7)) & 1)
-/* The state that comes after a state and a nonterminal. */
+/* The state that comes after a state and a nonterminal. `n` is no part of these. */
 #define YYGOTO(n, state, left) \
-  ((n) = yygrow[state] + (left), \
-   (n) = yygcheck[n] == (left) ? yygvalue[n] : yytarget[left])
+  ((n) = yygrow[left] + (state), \
+   (n) = yygcheck[n] == (state) ? yygvalue[n] : yytarget[left])
 "##;
 
 /// Whether an array of names has them as in the file, or without quotes.

@@ -22,7 +22,7 @@ fn number(numbers: &Numbers, at: usize) -> Option<usize> {
     numbers.as_slice().get(at).copied()
 }
 
-/// What a comb has for a state at a column.
+/// What row `q` of a comb has at a column.
 fn held(comb: &Comb, q: usize, t: usize) -> Option<usize> {
     let at = number(&comb.rows, q)?.saturating_add(t);
     if number(&comb.checks, at) == Some(t) {
@@ -35,7 +35,8 @@ fn held(comb: &Comb, q: usize, t: usize) -> Option<usize> {
 // State 0 shifts 'x' (token 2) to state 1, which is consistent; state 2 accepts at the end. With
 // three states, 3 is the acceptance; with three tokens, rows have four columns, and 4 is the check
 // of a free cell. The row of state 2 is put first, at 0; that of state 0 at 1, where its column 2
-// is place 3; the empty row at 2, with room up to place 5. The only goto is the usual one.
+// is place 3; the empty row at 2, with room up to place 5. The only goto is the usual one, so the rows
+// of both nonterminals are empty, with a column for each state.
 #[test]
 fn arrays_of_one_token(rt: HostRuntime) -> Result<(), Fail> {
     let code = arrays(rt.alloc(), ONE)?;
@@ -49,8 +50,8 @@ fn arrays_of_one_token(rt: HostRuntime) -> Result<(), Fail> {
     assert!(rt; are(&code.usual, &[0, 1, 0]));
     assert!(rt; are(&code.sets, &[1, 0, 1]));
     assert!(rt; are(&code.bits, &[15, 0]));
-    assert!(rt; are(&code.gotos.rows, &[0, 0, 0]));
-    assert!(rt; are(&code.gotos.checks, &[2, 2]));
+    assert!(rt; are(&code.gotos.rows, &[0, 0]));
+    assert!(rt; are(&code.gotos.checks, &[3, 3, 3]));
     assert!(rt; are(&code.targets, &[0, 2]));
     assert!(rt; are(&code.lengths, &[2, 1]));
     assert!(rt; are(&code.lefts, &[0, 1]));

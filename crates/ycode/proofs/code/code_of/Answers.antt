@@ -1,10 +1,10 @@
-use Rattle.std.proofs.Common.{ℕ, ◌≡◌, ◌+◌, ◌-◌, ◌<◌, ◌∙◌, List, length, sym, ap, subst, arith}
+use Rattle.std.proofs.Common.{ℕ, ◌≡◌, ◌+◌, ◌<◌, ◌∙◌, List, length, sym, ap, subst}
 use Rattle.std.proofs.Common.{slice_index}
 use Rattle.ysymbols.specs.Grammar.{GrammarValue, body_of, left_of}
 use Rattle.ysymbols.specs.WellFormed.{WellFormed}
 use Rattle.ylalr.specs.Collection.{Collection, HasStates}
 use Rattle.ycode.specs.declared.entry.Entry.{Entry}
-use Rattle.ycode.specs.Cells.{states_of, tokens_of, symbols_of, rules_of}
+use Rattle.ycode.specs.Cells.{states_of, tokens_of, rules_of}
 use Rattle.ycode.specs.Combs.{HasRows, AreAtMost}
 use Rattle.ycode.specs.Entries.{NumbersAtMost}
 use Rattle.ycode.specs.Translation.{TranslatesTo, tokens_for}
@@ -30,17 +30,15 @@ returns c =
     let symbols = c.in_ok-symbols_of.field-0 in
     let lengths = c.in_ok-lengths_of.field-0 in
     let lefts = c.in_ok-lefts_of.field-0 in
-    let numbers = c.in_ok-translation_of.field-0 in
+    let numbers = c.in_ok-translation.field-0 in
     let i = c.span.ensures.valid in
     let h1 : HasRows cells.rows.items (tokens_of v + 1) c1 =
     subst (λ (w : ℕ). HasRows cells.rows.items (w + 1) c1) a.tokens
     (subst (λ (rows : List (List Entry)). HasRows rows (z.tokens + 1) c1) c.deref.ensures.value
     c.in_ok-comb_of.ensures.rows) in
-    let wide : z.symbols - z.tokens ≡ length tg.usual.items = (let e = t.count in
-    let f = a.tokens in let g = a.symbols in omega (arith, e, f, g)) in
-    let h2 : HasRows tg.rows.items (length tg.usual.items) c2 =
-    subst (λ (w : ℕ). HasRows tg.rows.items w c2) wide
-    (subst (λ (rows : List (List Entry)). HasRows rows (z.symbols - z.tokens) c2)
+    let h2 : HasRows tg.rows.items (states_of v) c2 =
+    subst (λ (w : ℕ). HasRows tg.rows.items w c2) a.states
+    (subst (λ (rows : List (List Entry)). HasRows rows z.states c2)
     c.deref-2.ensures.value c.in_ok-comb_of-2.ensures.rows) in
     let v1 : AreAtMost (states_of v + rules_of v) c1.values =
     c.in_ok-comb_of.ensures.values (states_of v + rules_of v)
@@ -75,21 +73,19 @@ returns c =
     let tr : TranslatesTo (tokens_of v) v.built.grammar.numbers (tokens_of v) numbers =
     subst (λ (k : ℕ). TranslatesTo k v.built.grammar.numbers k numbers) a.tokens
     (subst (λ (x : GrammarValue). TranslatesTo z.tokens x.numbers z.tokens numbers) g
-    c.in_ok-translation_of.ensures.translates) in
+    c.in_ok-translation.ensures.translates) in
     let ns : AreAtMost (tokens_of v) numbers = subst (λ (k : ℕ). AreAtMost k numbers) a.tokens
-    c.in_ok-translation_of.ensures.most in
+    c.in_ok-translation.ensures.most in
     let e1 : c1 ≡ comb_for (tokens_of v + 1) cells.rows.items =
     c.in_ok-comb_of.ensures.exact ∙
     (ap (λ (rows : List (List Entry)). comb_for (z.tokens + 1) rows) c.deref.ensures.value ∙
     ap (λ (w : ℕ). comb_for (w + 1) cells.rows.items) a.tokens) in
-    let narrow : z.symbols - z.tokens ≡ symbols_of v - tokens_of v = (let f = a.tokens in
-    let g = a.symbols in omega (arith, f, g)) in
-    let e2 : c2 ≡ comb_for (symbols_of v - tokens_of v) tg.rows.items =
+    let e2 : c2 ≡ comb_for (states_of v) tg.rows.items =
     c.in_ok-comb_of-2.ensures.exact ∙
-    (ap (λ (rows : List (List Entry)). comb_for (z.symbols - z.tokens) rows)
-    c.deref-2.ensures.value ∙ ap (λ (w : ℕ). comb_for w tg.rows.items) narrow) in
+    (ap (λ (rows : List (List Entry)). comb_for z.states rows)
+    c.deref-2.ensures.value ∙ ap (λ (w : ℕ). comb_for w tg.rows.items) a.states) in
     let ne : numbers ≡ tokens_for v.built.grammar.numbers =
-    c.in_ok-translation_of.ensures.list ∙ ap (λ (x : GrammarValue). tokens_for x.numbers) g in
+    c.in_ok-translation.ensures.list ∙ ap (λ (x : GrammarValue). tokens_for x.numbers) g in
     rw (
       c.of.ensures,
       c.of-2.ensures,
@@ -115,6 +111,6 @@ returns c =
             i h1 tg.usual.items tg.rows.items c2 t h2 symbols lengths lefts numbers hs
             c.in_ok-symbols_of.ensures.len c.in_ok-symbols_of.ensures.symbols z.states z.rules
             z.tokens
-            a.states a.rules a.tokens w ll fl le fe v1 v2 ns c.in_ok-translation_of.ensures.few;
+            a.states a.rules a.tokens w ll fl le fe v1 v2 ns c.in_ok-translation.ensures.few;
       };
     }

@@ -1,4 +1,4 @@
-use Rattle.std.proofs.Common.{ℕ, ◌≡◌, ◌∙◌, List, [], ◌∷◌, ◌++◌, get_or, sym, ap}
+use Rattle.std.proofs.Common.{ℕ, ◌∙◌, List, [], ◌∷◌, ◌++◌, get_or, sym, ap}
 use Rattle.ycode.specs.declared.entry.Entry.{Entry}
 use Rattle.ycode.proofs.LayoutSteps.{key_more}
 use Rattle.ycode.proofs.layout.key_of.Goals as goal

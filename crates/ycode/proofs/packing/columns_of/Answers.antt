@@ -1,4 +1,4 @@
-use Rattle.std.proofs.Common.{ℕ, ◌<◌, ◌∙◌, Bool, None, Option, is_some, length, get_or, sym, subst}
+use Rattle.std.proofs.Common.{ℕ, ◌<◌, ◌∙◌, Bool, None, is_some, length, get_or, sym, subst}
 use Rattle.std.proofs.Common.{All}
 use Rattle.std.proofs.lemmas.List.Elements.{All-push}
 use Rattle.ycode.proofs.ListSteps.{filter_yes, filter_no}

@@ -1,4 +1,4 @@
-use Rattle.std.proofs.Common.{ℕ, ◌≡◌, ◌<◌, length, All, None, is_some, slice_index_or}
+use Rattle.std.proofs.Common.{◌≡◌, ◌<◌, length, All, None, is_some, slice_index_or}
 use Rattle.std.specs.List.{filter, range_with_len}
 use Rattle.ycode.proofs.packing.columns_of.Given as goal
 

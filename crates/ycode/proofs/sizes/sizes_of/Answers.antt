@@ -3,7 +3,7 @@ use Rattle.ysymbols.specs.Grammar.{GrammarValue}
 use Rattle.ysymbols.specs.WellFormed.{WellFormed}
 use Rattle.ylalr.specs.Collection.{Collection, HasStates, Guide, IsGuide, bare_of}
 use Rattle.ycode.specs.Cells.{states_of, tokens_of, symbols_of, rules_of}
-use Rattle.ycode.proofs.CellSteps.{action_fits, goto_below}
+use Rattle.ycode.proofs.CellSteps.{action_fits, goto_below, some_states}
 use Rattle.ycode.proofs.sizes.sizes_of.Goals as goal
 
 pub returns : goal.returns
@@ -32,6 +32,7 @@ returns c =
       few_states = let f = s.few in omega (arith, states, f);
       few_symbols = let f = w.small in omega (arith, symbols, f);
       few_rules = let f = w.few in omega (arith, rules, f);
+      some_states = let f = some_states v.built s in omega (arith, states, f);
       some_tokens = let f = w.ends in omega (arith, tokens, f);
       some_nonterminals = let f = w.nonterminal 0 w.some in let h = w.left 0 w.some in
           omega (arith, tokens, symbols, f, h);

@@ -1,4 +1,4 @@
-use Rattle.std.proofs.Common.{ℕ, ◌≡◌, ◌+◌, ◌*◌, ◌/◌, ◌%◌, ◌^◌, ◌<◌, List, length, set, ap, arith}
+use Rattle.std.proofs.Common.{ℕ, ◌*◌, ◌/◌, ◌%◌, ◌^◌, ◌<◌, List, length, set, ap, arith}
 use Rattle.std.proofs.Common.{bit_or}
 use Rattle.std.proofs.lemmas.List.{get_or_read}
 use Rattle.ycode.proofs.SlotSteps.{mark_is}

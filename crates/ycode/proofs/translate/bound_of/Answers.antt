@@ -1,4 +1,4 @@
-use Rattle.std.proofs.Common.{ℕ, ◌≡◌, ◌+◌, ◌<◌, ◌≤◌, ◌∙◌, length, sym, ap, subst, arith, max}
+use Rattle.std.proofs.Common.{◌≡◌, ◌+◌, ◌<◌, ◌∙◌, length, sym, arith, max}
 use Rattle.ycode.proofs.TranslationSteps.{bound_more, bound_all, above_more, none_missing}
 use Rattle.ycode.proofs.TranslationSteps.{ord_max_is}
 use Rattle.ycode.proofs.translate.bound_of.Goals.{in-Some, in_default}

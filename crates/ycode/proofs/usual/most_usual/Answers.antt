@@ -1,4 +1,4 @@
-use Rattle.std.proofs.Common.{ℕ, ◌≡◌, ◌<◌, ◌≤◌, ◌+◌, ◌∙◌, List, None, Some, length, get_or, set, ap}
+use Rattle.std.proofs.Common.{ℕ, ◌≡◌, ◌<◌, ◌+◌, ◌∙◌, List, None, Some, length, get_or, set, ap}
 use Rattle.std.proofs.Common.{sym}
 use Rattle.std.proofs.Common.{arith, slice_index, replicate, take, Vec, Global}
 use Rattle.ycode.specs.Usual.{count_of}

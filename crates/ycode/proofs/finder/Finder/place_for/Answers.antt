@@ -1,4 +1,4 @@
-use Rattle.std.proofs.Common.{ℕ, ◌≡◌, ◌<◌, ◌+◌, ◌∙◌, true, false, sym, subst, arith}
+use Rattle.std.proofs.Common.{ℕ, ◌≡◌, ◌+◌, ◌∙◌, true, false, sym, subst, arith}
 use Rattle.ycode.specs.Packing.{can_begin}
 use Rattle.ycode.proofs.FinderSteps.{passed_all, passed_next}
 use Rattle.ycode.proofs.PlaceSteps.{first_is, free_end}

@@ -1,11 +1,11 @@
-use Rattle.std.proofs.Common.{ℕ, ◌≡◌, ◌+◌, ◌<◌, ◌∙◌, List, Bool, Some, None, false, sym, ap, subst}
+use Rattle.std.proofs.Common.{ℕ, ◌≡◌, ◌∙◌, Some, false, sym, ap, subst}
 use Rattle.std.proofs.Common.{arith}
 use Rattle.ysymbols.specs.Names.{find_in, is_among}
-use Rattle.ycode.specs.Bits.{SetsValue, AreBits, HasSet, IsSets, KeepsSets, AreListed, and_set}
-use Rattle.ycode.specs.Bits.{bytes_for, with_set, number_of}
-use Rattle.ycode.proofs.BitSteps.{not_found, there_set, there_same, there_number, more_set}
+use Rattle.ycode.specs.Bits.{SetsValue, AreBits, HasSet, KeepsSets, AreListed, and_set}
+use Rattle.ycode.specs.Bits.{bytes_for, number_of}
+use Rattle.ycode.proofs.BitSteps.{not_found, there_set, more_set}
 use Rattle.ycode.proofs.BitSteps.{more_keeps}
-use Rattle.ycode.proofs.BitSteps.{more_same, more_number, more_listed}
+use Rattle.ycode.proofs.BitSteps.{more_number, more_listed}
 use Rattle.ycode.proofs.sets.Sets.put.Goals as goal
 
 pub overflow_add-result : goal.overflow_add-result

@@ -1,6 +1,6 @@
 use Rattle.std.proofs.Common.{ℕ, ◌≡◌, ◌<◌, ◌≤◌, length, take, Some, slice_index}
 use Rattle.ycode.specs.Usual.{count_of}
-use Rattle.ycode.proofs.usual.counts_of.Given as goal
+use Rattle.ycode.proofs.usual.counts.Given as goal
 
 abbrev pub invariant-loop-i : goal.invariant-loop-i
 invariant-loop-i l = record {

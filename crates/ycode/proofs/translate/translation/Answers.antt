@@ -1,7 +1,7 @@
 use Rattle.std.proofs.Common.{ℕ, ◌≡◌, ◌∙◌, sym, subst, arith}
 use Rattle.ycode.specs.Translation.{TranslatesTo}
 use Rattle.ycode.proofs.TranslationSteps.{translation_is}
-use Rattle.ycode.proofs.translate.translation_of.Goals as goal
+use Rattle.ycode.proofs.translate.translation.Goals as goal
 
 pub returns-clause-list : goal.returns-clause-list
 returns-clause-list c =

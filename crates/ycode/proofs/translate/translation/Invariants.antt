@@ -1,7 +1,7 @@
 use Rattle.std.proofs.Common.{ℕ, ◌≡◌, ◌<◌, ◌≤◌, ◌^◌, Some, slice_get, length}
 use Rattle.ycode.specs.Combs.{AreAtMost}
 use Rattle.ycode.specs.Translation.{TranslatesTo, bound_for}
-use Rattle.ycode.proofs.translate.translation_of.Given as goal
+use Rattle.ycode.proofs.translate.translation.Given as goal
 
 abbrev pub invariant-loop-s : goal.invariant-loop-s
 invariant-loop-s l = record {

@@ -4,8 +4,8 @@ use Rattle.std.proofs.lemmas.List.{get_or_read, length-set, take_all}
 use Rattle.std.proofs.lemmas.List.FromFn.{fill_by_all}
 use Rattle.ycode.specs.Usual.{count_of}
 use Rattle.ycode.proofs.UsualSteps.{counts_skip, counts_more, counts_few, none_there}
-use Rattle.ycode.proofs.usual.counts_of.Goals.{in-Some, in_default}
-use Rattle.ycode.proofs.usual.counts_of.Goals as goal
+use Rattle.ycode.proofs.usual.counts.Goals.{in-Some, in_default}
+use Rattle.ycode.proofs.usual.counts.Goals as goal
 
 pub loop-i-preserved : goal.loop-i-preserved
 loop-i-preserved c =
