@@ -5,7 +5,7 @@ from functools import partial
 from typing import Callable
 
 from checks.peers.package_inputs import Design, Reader
-from checks.peers.package_tests import awk_tests, lines_told, made, whole
+from checks.peers.package_tests import awk_tests, lines_told, made, numbered, whole
 from checks.peers.package_texts import (
     FILTERS,
     JQ_PROGRAMS,
@@ -166,6 +166,24 @@ CUE_TESTS = f"cd out && ctest | grep -Eo '{CUE_ENDS}'"
 MSI_BUILD = "meson setup out\nninja -C out"
 MSI_TESTS = """meson test -C out --no-rebuild > /dev/null
 grep -Eo '^(not )?ok [0-9]+.*' out/meson-logs/testlog.txt"""
+
+# --- libdap: two parsers in C++ and four in C. Some sources take what those of other folders make
+# before them; what isn't optimized is compiled sooner.
+DAP_PARSERS = "das dds ce_expr Error d4_ce/d4_ce_parser d4_function/d4_function_parser".split()
+DAP_MADE = [f"{it}.tab.{kind}" for it in DAP_PARSERS for kind in ("cc", "hh")] + [
+    f"{folder}/{it}.hh"
+    for folder in ("d4_ce", "d4_function")
+    for it in ("location", "position", "stack")
+]
+DAP_BUILD = f"""./configure --disable-shared CFLAGS=-O0 CXXFLAGS=-O0 {SETTLED}
+printf 'include Makefile\\nbuilt: $(BUILT_SOURCES)\\n' > built.mk
+make -f built.mk built
+make -C gl
+make -C d4_ce
+make -C d4_function
+make -j4 libdap.la libdapserver.la libdapclient.la
+make -C tests -j4 das-test dds-test expr-test dmr-test"""
+DAP_TESTS = [f"cd tests && sh ./{it}Test -j4" for it in ("DAS", "DDS", "EXPR", "DMR")]
 
 # --- byacc: the grammars of its tests whose parsers run, and those that are compiled. The others
 # are for btyacc, or to be refused, or have what ycc refuses: `%<` and `%0` for words (ok_syntax1,
@@ -380,6 +398,14 @@ PACKAGES = [
         needs=("meson", "ninja", "bats"),
         build=MSI_BUILD,
         tests=partial(whole, [MSI_TESTS]),
+    ),
+    Package(
+        name="libdap",
+        source="libdap",
+        stale=tuple(DAP_MADE),
+        needs=("flex", "curl-config", "xml2-config"),
+        build=DAP_BUILD,
+        tests=partial(numbered, DAP_TESTS),
     ),
     Package(
         name="byacc",

@@ -3,6 +3,9 @@ import re
 
 # A line such as `PASS: name` or `program: FAIL: 3`.
 RESULT = re.compile(r"^(\w+: )?(PASS|FAIL|XPASS|XFAIL|SKIP|ERROR): (.+)$", re.M)
+# A line of autotest's, such as ` 12: name ... ok`.
+ENDS = "ok|FAILED|skipped|expected failure|UNEXPECTED PASS"
+NUMBERED = re.compile(rf"^ *(\d+: .*?)[ \t]+({ENDS})(?: +\(.*\))?$", re.M)
 
 
 def told_of(build, script, below=""):
@@ -14,6 +17,15 @@ def lines_told(script, below, build):
     """The results that a script tells in lines."""
     found = RESULT.findall(told_of(build, script, below))
     return {program + name: result for program, result, name in found}
+
+
+def numbered(scripts, build):
+    """The results that autotest's scripts tell in lines, which aren't in order."""
+    return {
+        f"{it} {name}": result
+        for it in scripts
+        for name, result in NUMBERED.findall(told_of(build, it))
+    }
 
 
 def whole(scripts, build):

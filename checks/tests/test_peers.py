@@ -7,7 +7,7 @@ from types import SimpleNamespace
 from unittest import mock
 
 from checks.peers import automata, bison, builds, cells, drawn, features, imports, package_inputs
-from checks.peers import packages
+from checks.peers import package_tests, packages
 from checks.peers.automata import Automaton
 from checks.peers.cells import Comparison
 from checks.peers.package_inputs import Case, Outcome
@@ -345,6 +345,14 @@ class Packages(Planted):
             package = mock.Mock(tests=lambda it, found=found: found if it == "ours" else right)
             with mock.patch("builtins.print"):
                 self.assertEqual(packages.tests_compared(package, "peer", "ours")[1], wrong)
+
+    def test_numbered(self):
+        """What autotest tells of each test, in any order."""
+        said = " 2: one (a ok) x.base FAILED (t.at:3)\n10: two ok\n## 3: no ##\n 1: three  skipped (t)"
+        build = mock.Mock(room="/room")
+        build.shell = mock.Mock(return_value=mock.Mock(stdout=said))
+        wanted = {"it 2: one (a ok) x.base": "FAILED", "it 10: two": "ok", "it 1: three": "skipped"}
+        self.assertEqual(package_tests.numbered(["it"], build), wanted)
 
     def test_outcomes(self):
         """Another output, message or status; what differs by memory is told apart."""
