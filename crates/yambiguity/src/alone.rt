@@ -5,7 +5,8 @@ use crate::stacks::{Deed, Stacks};
 use indexmap::IndexSet;
 use std::alloc::Global;
 use yexplain::reads::{Made, shift_of};
-use ylalr::END;
+use ylalr::{Automaton, END};
+use ysymbols::let_go;
 use ytables::Tables;
 
 /// The most stacks that are met.
@@ -21,22 +22,61 @@ pub struct Alone {
     pub stack: usize,
 }
 
-/// The reductions that lead to the stack of a number, where each has the number of the stack on
-/// which it is made; that of the first stack has none.
-fn reductions(alloc: Global, links: &[(usize, usize)], number: usize) -> Made<Vec<Deed>> {
-    let (mut deeds, mut at) = (Vec::new(alloc), number);
-    for _ in 0..links.len() {
-        let Some(link) = links.get(at) else {
-            break;
-        };
-        if at == 0 {
-            break;
-        }
-        deeds.push(Deed::Reduce(link.1))?;
-        at = link.0;
+/// The stacks that were met, and how each came up: the number of the one before it, and the rule of
+/// the reduction; the first one has none.
+struct Met {
+    stacks: IndexSet<usize>,
+    links: Vec<(usize, usize)>,
+}
+
+impl Drop for Met {
+    // A call in each owner, which keeps their proofs short.
+    fn drop(self) {
+        let_go!(self: Met { stacks, links });
     }
-    deeds.reverse();
-    Ok(deeds)
+}
+
+impl Met {
+    /// Adds a stack that wasn't met yet.
+    fn add(&mut self, stack: usize, link: (usize, usize)) -> Made<()> {
+        if self.stacks.insert(stack)? {
+            self.links.push(link)?;
+        }
+        Ok(())
+    }
+
+    /// The reductions that lead to the stack of a number.
+    fn reductions(&self, alloc: Global, number: usize) -> Made<Vec<Deed>> {
+        let (mut deeds, mut at) = (Vec::new(alloc), number);
+        for _ in 0..self.links.len() {
+            let Some(link) = self.links.get(at) else {
+                break;
+            };
+            if at == 0 {
+                break;
+            }
+            deeds.push(Deed::Reduce(link.1))?;
+            at = link.0;
+        }
+        deeds.reverse();
+        Ok(deeds)
+    }
+
+    /// Adds the stacks after the reductions that the token allows on the stack of a number.
+    fn reduce(
+        &mut self,
+        rules: &[usize],
+        automaton: &Automaton,
+        stacks: &mut Stacks,
+        (number, stack): (usize, usize),
+    ) -> Made<()> {
+        for rule in rules {
+            if let Some(next) = stacks.reduced(automaton, stack, *rule)? {
+                self.add(next, (number, *rule))?;
+            }
+        }
+        Ok(())
+    }
 }
 
 /// The reductions from a stack to the first one on which the token can be shifted, and that one.
@@ -47,25 +87,22 @@ fn until_shift(
     stack: usize,
     cell: Cell,
 ) -> Made<Option<Alone>> {
-    let (mut met, mut links) = (IndexSet::new(alloc), Vec::new(alloc));
-    met.insert(stack)?;
-    links.push((0usize, 0usize))?;
+    let mut met = Met {
+        stacks: IndexSet::new(alloc),
+        links: Vec::new(alloc),
+    };
+    met.add(stack, (0, 0))?;
     for number in 0..MOST_STACKS {
-        let Some(stack) = met.get_index(number).copied() else {
+        let Some(stack) = met.stacks.get_index(number).copied() else {
             break;
         };
         let state = stacks.top(stack);
         if shift_of(tables, state, cell.token).is_some() {
-            let deeds = reductions(alloc, &links, number)?;
+            let deeds = met.reductions(alloc, number)?;
             return Ok(Some(Alone { deeds, stack }));
         }
-        for rule in &rules_in(alloc, tables, state, Some(cell.token))? {
-            if let Some(next) = stacks.reduced(tables.automaton(), stack, *rule)? {
-                if met.insert(next)? {
-                    links.push((number, *rule))?;
-                }
-            }
-        }
+        let rules = rules_in(alloc, tables, state, Some(cell.token))?;
+        met.reduce(&rules, tables.automaton(), stacks, (number, stack))?;
     }
     Ok(None)
 }

@@ -217,6 +217,26 @@ pub fn fork_of(
     Ok((None, MOST_STEPS.saturating_sub(parser.steps)))
 }
 
+/// Whether a grammar derives a sentence: whether it can be parsed in some way, whatever precedences
+/// say; `None` where not all ways were gone.
+pub fn derives<'a>(alloc: Global, tables: &'a Tables, tokens: &'a [Sym]) -> Made<Option<bool>> {
+    let mut parser = parser_of(alloc, tables, tokens);
+    parser.open.push(Parse {
+        states: Vec::from_slice(alloc, &[0])?,
+        place: 0,
+        deeds: Vec::new(alloc),
+    })?;
+    for _ in 0..MOST_STEPS {
+        let Some(parse) = parser.open.pop() else {
+            return Ok(Some(false));
+        };
+        if parser.go_on(&parse)? {
+            return Ok(Some(true));
+        }
+    }
+    Ok(None)
+}
+
 /// Whether so many steps over one sentence are all that may be taken.
 pub fn is_late(steps: usize) -> bool {
     steps >= MOST_STEPS

@@ -39,9 +39,11 @@ impl Stacks {
         automaton: &Automaton,
         way: &[Sym],
     ) -> Made<Option<(Stacks, usize)>> {
-        let mut entries = IndexSet::new(alloc);
-        entries.insert((0usize, BOTTOM))?;
-        let (mut stacks, mut stack) = (Stacks { entries }, BOTTOM);
+        let mut stacks = Stacks {
+            entries: IndexSet::new(alloc),
+        };
+        stacks.entries.insert((0, BOTTOM))?;
+        let mut stack = BOTTOM;
         for symbol in way {
             match stacks.shifted(automaton, stack, *symbol)? {
                 Some(next) => stack = next,

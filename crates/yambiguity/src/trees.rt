@@ -3,7 +3,7 @@
 use crate::stacks::Deed;
 use std::alloc::Global;
 use yexplain::reads::{Made, body_of, left_of};
-use ysymbols::{Grammar, Sym};
+use ysymbols::{Grammar, Sym, let_go};
 
 /// The most nodes that are gone over for one answer.
 pub const MOST_NODES: usize = 20_000;
@@ -22,10 +22,16 @@ pub struct Node {
 }
 
 /// Trees, of which the larger ones share the smaller.
-#[derive(Drop)]
 pub struct Trees {
     nodes: Vec<Node>,
     children: Vec<usize>,
+}
+
+impl Drop for Trees {
+    // A call in each owner, which keeps their proofs short.
+    fn drop(self) {
+        let_go!(self: Trees { nodes, children });
+    }
 }
 
 impl Trees {

@@ -6,7 +6,7 @@ use crate::trees::{MOST_NODES, Node, Trees};
 use std::alloc::Global;
 use yexplain::reads::{Made, body_of, left_of};
 use ylalr::END;
-use ysymbols::{Grammar, Sym};
+use ysymbols::{Grammar, Sym, let_go};
 
 /// What a tree is to be: one of the start symbol, with these tokens, in which the rival stands
 /// after so many of them, with a way before it: the symbols that a parse has on its stack there.
@@ -34,7 +34,6 @@ enum Visit {
 }
 
 /// A walk over a tree, from left to right.
-#[derive(Drop)]
 struct Walk {
     open: Vec<Visit>,
     /// The symbols of the whole trees to the left.
@@ -43,6 +42,13 @@ struct Walk {
     tokens: Vec<Sym>,
     /// Whether the rival was met.
     is_met: bool,
+}
+
+impl Drop for Walk {
+    // A call in each owner, which keeps their proofs short.
+    fn drop(self) {
+        let_go!(self: Walk { open, before, tokens, is_met });
+    }
 }
 
 impl Walk {

@@ -4,7 +4,7 @@
 use std::alloc::Global;
 use std::collections::HashSet;
 use yexplain::reads::{Made, body_of, grammar_of, left_of, name_of, set};
-use ylalr::END;
+use ylalr::{END, Item};
 use yparse::states::act;
 use ysearch::shortest::Shortest;
 use ysymbols::{Grammar, Sym, let_go};
@@ -43,7 +43,6 @@ impl Drop for Language {
 }
 
 /// What strings are made with.
-#[derive(Drop)]
 struct Making<'a> {
     alloc: Global,
     grammar: &'a Grammar,
@@ -58,28 +57,93 @@ struct Making<'a> {
     left: usize,
 }
 
+impl Drop for Making<'_> {
+    // A call in each owner, which keeps their proofs short.
+    fn drop(self) {
+        let_go!(self: Making { alloc, grammar, shortest, beside, most, strings, met, left });
+    }
+}
+
 /// The symbol of which sentences are strings; the end isn't one of their tokens.
 fn start_of(grammar: &Grammar) -> Sym {
     body_of(grammar, 0).first().copied().unwrap_or(0)
 }
 
-/// How many tokens stand beside each symbol in a sentence at least.
-fn beside_of(alloc: Global, grammar: &Grammar, shortest: &Shortest) -> Made<Vec<u64>> {
-    let mut beside = vec![in alloc; FAR; grammar.symbols()]?;
-    set(&mut beside, start_of(grammar), 0);
-    for _ in 0..grammar.symbols() {
+/// What stands beside each symbol in a sentence at least.
+pub struct Beside {
+    /// How many tokens.
+    lengths: Vec<u64>,
+    /// The item with its dot before the symbol; none for the start symbol.
+    items: Vec<Option<Item>>,
+}
+
+impl Drop for Beside {
+    // A call in each owner, which keeps their proofs short.
+    fn drop(self) {
+        let_go!(self: Beside { lengths, items });
+    }
+}
+
+impl Beside {
+    /// Takes in a rule, and says whether less is known to stand beside a symbol of it.
+    fn add(&mut self, grammar: &Grammar, shortest: &Shortest, rule: usize) -> bool {
+        let (left, body) = (left_of(grammar, rule).unwrap_or(0), body_of(grammar, rule));
+        let around = self.lengths.get(left).copied().unwrap_or(FAR);
+        let all = shortest.length_of(body).saturating_add(around);
+        let mut is_less = false;
+        for dot in 0..body.len() {
+            let symbol = body.get(dot).copied().unwrap_or(0);
+            let least = all.saturating_sub(shortest.length(symbol));
+            if least < self.lengths.get(symbol).copied().unwrap_or(0) {
+                set(&mut self.lengths, symbol, least);
+                set(&mut self.items, symbol, Some(Item { rule, dot }));
+                is_less = true;
+            }
+        }
+        is_less
+    }
+
+    /// The form of a sentence in which these symbols stand in place of a nonterminal; `None` where
+    /// it stands in no sentence.
+    pub fn around(
+        &self,
+        alloc: Global,
+        grammar: &Grammar,
+        left: Sym,
+        middle: &[Sym],
+    ) -> Made<Option<Vec<Sym>>> {
+        let (mut form, mut at) = (Vec::from_slice(alloc, middle)?, left);
+        for _ in 0..grammar.symbols() {
+            let Some(item) = self.items.get(at).copied().flatten() else {
+                break;
+            };
+            let body = body_of(grammar, item.rule);
+            let mut longer = Vec::from_slice(alloc, body.get(..item.dot).unwrap_or(&[]))?;
+            longer.extend_from_slice(&form)?;
+            longer.extend_from_slice(body.get(item.dot.saturating_add(1)..).unwrap_or(&[]))?;
+            form = longer;
+            at = left_of(grammar, item.rule).unwrap_or(0);
+        }
+        if at == start_of(grammar) {
+            Ok(Some(form))
+        } else {
+            Ok(None)
+        }
+    }
+}
+
+/// What stands beside each symbol in a sentence at least.
+pub fn beside_of(alloc: Global, grammar: &Grammar, shortest: &Shortest) -> Made<Beside> {
+    let symbols = grammar.symbols();
+    let mut beside = Beside {
+        lengths: vec![in alloc; FAR; symbols]?,
+        items: vec![in alloc; None; symbols]?,
+    };
+    set(&mut beside.lengths, start_of(grammar), 0);
+    for _ in 0..symbols {
         let mut is_less = false;
         for rule in 1..grammar.rules() {
-            let (left, body) = (left_of(grammar, rule).unwrap_or(0), body_of(grammar, rule));
-            let around = beside.get(left).copied().unwrap_or(FAR);
-            let all = shortest.length_of(body).saturating_add(around);
-            for symbol in body {
-                let least = all.saturating_sub(shortest.length(*symbol));
-                if least < beside.get(*symbol).copied().unwrap_or(0) {
-                    set(&mut beside, *symbol, least);
-                    is_less = true;
-                }
-            }
+            is_less = beside.add(grammar, shortest, rule) || is_less;
         }
         if !is_less {
             break;
@@ -222,7 +286,7 @@ pub fn language_of(
     let mut found = None;
     for most in 0..=MOST_TOKENS {
         let asked = (most, MOST_STEPS);
-        let Some(sentences) = sentences_of(alloc, grammar, shortest, &beside, asked)? else {
+        let Some(sentences) = sentences_of(alloc, grammar, shortest, &beside.lengths, asked)? else {
             break;
         };
         if sentences.len() > MOST_SENTENCES {
@@ -274,6 +338,47 @@ pub fn accepts(
     Ok(None)
 }
 
+/// The sentences of another grammar.
+struct Theirs {
+    all: HashSet<Vec<Sym>>,
+}
+
+impl Drop for Theirs {
+    // A call in each owner, which keeps their proofs short.
+    fn drop(self) {
+        let_go!(self: Theirs { all });
+    }
+}
+
+impl Theirs {
+    /// Adds sentences.
+    fn add(&mut self, sentences: &[Vec<Sym>]) -> Made<()> {
+        for sentence in sentences {
+            self.all.insert(sentence.clone()?)?;
+        }
+        Ok(())
+    }
+
+    /// Whether all sentences of one grammar are among those of the other one.
+    fn has_all(
+        &mut self,
+        alloc: Global,
+        (grammar, other): (&Grammar, &Grammar),
+        language: &Language,
+    ) -> Made<bool> {
+        for sentence in &language.sentences {
+            let is_there = match renamed(alloc, grammar, other, sentence)? {
+                Some(tokens) => !self.all.insert(tokens)?,
+                None => false,
+            };
+            if !is_there {
+                return Ok(false);
+            }
+        }
+        Ok(true)
+    }
+}
+
 /// Whether the grammar of other tables has these sentences of a grammar, and no other ones of as
 /// few tokens; `None` where that takes too many steps.
 pub fn is_same(
@@ -286,24 +391,15 @@ pub fn is_same(
     let shortest = Shortest::new(alloc, other)?;
     let beside = beside_of(alloc, other, &shortest)?;
     let asked = (language.most, MOST_STEPS.saturating_mul(2));
-    let Some(sentences) = sentences_of(alloc, other, &shortest, &beside, asked)? else {
+    let Some(sentences) = sentences_of(alloc, other, &shortest, &beside.lengths, asked)? else {
         return Ok(None);
     };
     if sentences.len() != language.sentences.len() {
         return Ok(Some(false));
     }
-    let mut theirs = HashSet::new(alloc);
-    for sentence in &sentences {
-        theirs.insert(sentence.clone()?)?;
-    }
-    for sentence in &language.sentences {
-        let is_there = match renamed(alloc, grammar, other, sentence)? {
-            Some(tokens) => !theirs.insert(tokens)?,
-            None => false,
-        };
-        if !is_there {
-            return Ok(Some(false));
-        }
-    }
-    Ok(Some(true))
+    let mut theirs = Theirs {
+        all: HashSet::new(alloc),
+    };
+    theirs.add(&sentences)?;
+    Ok(Some(theirs.has_all(alloc, (grammar, other), language)?))
 }

@@ -2,14 +2,16 @@
 //! is compared.
 
 use crate::ahead::second_after;
+use crate::candidates::{Candidate, for_idiom, for_rules, for_shift, push_rewriting};
 use crate::changed::{conflicts_in, tables_after};
 use crate::changed_text::Change;
-use crate::idioms::{Form, Idiom, can_vanish, idioms_of};
+use crate::cover::are_covered;
+use crate::idioms::{Idiom, idioms_of};
 use crate::language::{Language, accepts, is_same, language_of, renamed};
 use crate::rewriting::Rewriting;
 use std::alloc::Global;
-use yexplain::lines::{Lines, is_inner};
-use yexplain::reads::{Made, body_of, grammar_of, left_of, level_of, name_of, vanishes};
+use yexplain::lines::Lines;
+use yexplain::reads::{Made, grammar_of, level_of, name_of};
 use ylalr::{END, ERROR, token_count};
 use ysearch::groups::{Group, Kind};
 use ysearch::moves::Moves;
@@ -20,11 +22,8 @@ use ytables::Tables;
 /// The most states of tables of which changes are tried.
 pub const MOST_STATES: usize = 800;
 
-/// How many states all tables may have that are made, and how many changes are tried for a conflict
-/// at most.
+/// How many states all tables may have that are made.
 const ALL_STATES: usize = 24_000;
-
-const MOST_CHANGES: usize = 32;
 
 /// How many changes are tried in a run at most, and of how many the language is compared.
 const ALL_CHANGES: usize = 80;
@@ -34,10 +33,7 @@ const MOST_COMPARED: usize = 12;
 /// How many steps parses over sentences may take for a change.
 const MOST_PARSED: usize = 400_000;
 
-/// The most rules with a nonterminal in their bodies that are changed, and the most rules that lose
-/// for which that is tried.
-const MOST_USERS: usize = 6;
-
+/// The most rules that lose for which changes are tried.
 const MOST_LOSERS: usize = 2;
 
 /// A change that leaves fewer conflicts.
@@ -81,14 +77,6 @@ impl Drop for Mended {
     }
 }
 
-/// A change to be tried.
-#[derive(Clone, Copy, Drop)]
-struct Candidate {
-    change: Change,
-    /// Whether the language stays the same by what it is.
-    is_kept: bool,
-}
-
 /// What tries changes for the conflicts of a run.
 pub struct Mender {
     alloc: Global,
@@ -113,129 +101,6 @@ impl Drop for Mender {
 /// Whether a grammar has precedences.
 fn has_levels(grammar: &Grammar) -> bool {
     (ERROR..token_count(grammar)).any(|token| level_of(grammar, token).is_some())
-}
-
-/// The first rules whose bodies have a symbol.
-fn users_of(alloc: Global, grammar: &Grammar, symbol: Sym) -> Made<Vec<usize>> {
-    let mut users = Vec::new(alloc);
-    for rule in 1..grammar.rules() {
-        let body = body_of(grammar, rule);
-        if users.len() < MOST_USERS && body.contains(&symbol) {
-            users.push(rule)?;
-        }
-    }
-    Ok(users)
-}
-
-/// Adds a change to be tried.
-fn push(list: &mut Vec<Candidate>, change: Change, is_kept: bool) -> Made<()> {
-    if list.len() < MOST_CHANGES {
-        list.push(Candidate { change, is_kept })?;
-    }
-    Ok(())
-}
-
-/// Adds a rewriting to be tried.
-fn push_rewriting(list: &mut Vec<Candidate>, rewriting: Rewriting, is_kept: bool) -> Made<()> {
-    push(list, Change::Rewritten(rewriting), is_kept)
-}
-
-/// The changes that mend an idiom.
-fn for_idiom(alloc: Global, tables: &Tables, idiom: &Idiom) -> Made<Vec<Candidate>> {
-    let (automaton, mut list) = (tables.automaton(), Vec::new(alloc));
-    let grammar = automaton.grammar();
-    let (first, symbol) = (idiom.rules.first().copied().unwrap_or(0), idiom.symbol);
-    let other = idiom.other.unwrap_or(symbol);
-    match idiom.form {
-        Form::Twice => push(&mut list, Change::Without(first), true)?,
-        Form::Alike => {
-            let by = other;
-            push_rewriting(&mut list, Rewriting::Merged { symbol, by }, true)?;
-        }
-        Form::ListOfLists => {
-            let is_kept = !vanishes(automaton, symbol);
-            push_rewriting(&mut list, Rewriting::Listed { rule: first }, is_kept)?;
-        }
-        Form::Cycle | Form::TwoEmpty => {
-            for rule in idiom.rules.iter().rev() {
-                push(&mut list, Change::Without(*rule), false)?;
-            }
-        }
-        Form::EmptyInList | Form::HiddenLeft => {
-            for rule in 1..grammar.rules() {
-                let is_empty = can_vanish(automaton, body_of(grammar, rule));
-                let left = left_of(grammar, rule).unwrap_or(0);
-                if idiom.empty.contains(&left) && is_empty {
-                    push(&mut list, Change::Without(rule), false)?;
-                }
-            }
-            let (symbol, rule) = (other, first);
-            if idiom.form == Form::EmptyInList {
-                push_rewriting(&mut list, Rewriting::Separated { symbol, rule }, false)?;
-            }
-            push_rewriting(&mut list, Rewriting::Inlined { symbol, rule }, true)?;
-        }
-    }
-    Ok(list)
-}
-
-/// Adds that the rules of a nonterminal are written out where it stands.
-fn push_inlined(
-    alloc: Global,
-    grammar: &Grammar,
-    list: &mut Vec<Candidate>,
-    symbol: Sym,
-) -> Made<()> {
-    for rule in &users_of(alloc, grammar, symbol)? {
-        let rule = *rule;
-        push_rewriting(list, Rewriting::Inlined { symbol, rule }, true)?;
-    }
-    Ok(())
-}
-
-/// The changes that may settle a conflict between two rules.
-fn for_rules(
-    alloc: Global,
-    grammar: &Grammar,
-    (taken, other): (usize, usize),
-) -> Made<Vec<Candidate>> {
-    let mut list = Vec::new(alloc);
-    let (Some(one), Some(two)) = (left_of(grammar, taken), left_of(grammar, other)) else {
-        return Ok(list);
-    };
-    for rule in [other, taken] {
-        if !is_inner(grammar, rule) {
-            push(&mut list, Change::Without(rule), false)?;
-        }
-    }
-    if one == two || is_inner(grammar, taken) || is_inner(grammar, other) {
-        return Ok(list);
-    }
-    for (symbol, by) in [(two, one), (one, two)] {
-        for rule in &users_of(alloc, grammar, symbol)? {
-            let rule = *rule;
-            push_rewriting(&mut list, Rewriting::Replaced { symbol, by, rule }, false)?;
-            push(&mut list, Change::Without(rule), false)?;
-        }
-    }
-    let merged = Rewriting::Merged {
-        symbol: two,
-        by: one,
-    };
-    push_rewriting(&mut list, merged, false)?;
-    push_rewriting(&mut list, Rewriting::Opened { one, two }, true)?;
-    Ok(list)
-}
-
-/// The changes that may settle a conflict between a shift and a rule.
-fn for_shift(alloc: Global, grammar: &Grammar, rule: usize) -> Made<Vec<Candidate>> {
-    let mut list = Vec::new(alloc);
-    if let (Some(left), false) = (left_of(grammar, rule), is_inner(grammar, rule)) {
-        push_inlined(alloc, grammar, &mut list, left)?;
-        let (one, two) = (left, left);
-        push_rewriting(&mut list, Rewriting::Opened { one, two }, true)?;
-    }
-    Ok(list)
 }
 
 impl Mender {
@@ -352,6 +217,11 @@ impl Mender {
         if left >= all || self.loses(tables, &changed)? {
             return Ok(None);
         }
+        // a new token is another language
+        let is_new = matches!(change, Change::Rewritten(Rewriting::Token { .. }));
+        if !is_new && !are_covered(alloc, tables, &changed, candidate.is_kept)? {
+            return Ok(None);
+        }
         let mut same = None;
         if self.compared > 0 {
             self.compared = self.compared.saturating_sub(1);
@@ -361,8 +231,7 @@ impl Mender {
                 None => None,
             };
         }
-        // without sentences it isn't known what precedences refuse; a new token is another language
-        let is_new = matches!(change, Change::Rewritten(Rewriting::Token { .. }));
+        // without sentences it isn't known what precedences refuse
         let is_plain = is_new || self.language.is_some() || !has_levels(grammar);
         let is_kept = candidate.is_kept && is_plain;
         let is_known = is_kept || same.is_some();

@@ -9,6 +9,7 @@ use yexplain::lines::Lines;
 use yexplain::reads::left_of;
 use yexplain::text::{Name, Numbered};
 use ysymbols::{Grammar, Sym};
+use yview::page::Page;
 
 /// The most tokens that are named, and the most rules.
 const MOST_TOKENS: usize = 8;
@@ -33,162 +34,184 @@ pub struct MendText<'a> {
     pub lines: &'a Lines,
 }
 
-impl<'a> MendText<'a> {
-    /// A rule with its line.
-    fn rule(self, rule: usize) -> Numbered<'a> {
-        Numbered(self.lines, rule)
+impl MendText<'_> {
+    /// Writes a text, and a rule with its line.
+    fn put_rule<W: Write>(self, page: &mut Page<W>, front: &str, rule: usize) {
+        page.put(front);
+        page.show(Numbered(self.lines, rule));
     }
 
-    /// A symbol.
-    fn name(self, symbol: Sym) -> Name<'a> {
-        Name(self.grammar, symbol)
+    /// Writes a text and a symbol.
+    fn put_name<W: Write>(self, page: &mut Page<W>, front: &str, symbol: Sym) {
+        page.put(front);
+        page.show(Name(self.grammar, symbol));
     }
 
     /// Writes rules: `rule 3 (line 4), then rule 5 (line 6)`.
-    fn put_rules<W: Write>(self, out: &mut W, rules: &[usize], front: &str) -> io::Result<()> {
+    fn put_rules<W: Write>(self, page: &mut Page<W>, rules: &[usize], front: &str) {
         for (place, rule) in rules.iter().take(MOST_RULES).enumerate() {
-            let front = if place == 0 { "" } else { front };
-            write!(out, "{front}{}", self.rule(*rule))?;
+            self.put_rule(page, if place == 0 { "" } else { front }, *rule);
         }
         if rules.len() > MOST_RULES {
-            write!(out, " ..")?;
+            page.put(" ..");
         }
-        Ok(())
     }
 
-    /// Writes what an idiom is.
-    fn put_idiom<W: Write>(self, out: &mut W, idiom: &Idiom) -> io::Result<()> {
-        let rule = self.rule(idiom.rules.first().copied().unwrap_or(0));
-        let (name, other) = (self.name(idiom.symbol), idiom.other.unwrap_or(idiom.symbol));
-        let other = self.name(other);
+    /// Writes what an idiom is, with its rules where they make it together.
+    fn put_idiom<W: Write>(self, page: &mut Page<W>, idiom: &Idiom) {
+        let name = idiom.symbol;
         match idiom.form {
             Form::Cycle => {
-                write!(out, "  A cycle: {name} derives itself alone, by ")?;
-                self.put_rules(out, &idiom.rules, ", then ")?;
-                writeln!(out, ", so each of its sentences has trees without end.")
+                self.put_name(page, "  A cycle: ", name);
+                page.put(" derives itself alone, by ");
+                self.put_rules(page, &idiom.rules, ", then ");
+                page.line(", so each of its sentences has trees without end.");
             }
-            Form::EmptyInList => writeln!(
-                out,
-                "  A cycle: where {other} is empty in {rule}, {name} derives itself alone, so each \
-                 of its sentences has trees without end."
-            ),
-            Form::HiddenLeft => writeln!(
-                out,
-                "  Hidden left recursion: in {rule} {name} comes after {other}, which can be empty, \
-                 so a parse must know before the first token how many of these come."
-            ),
             Form::TwoEmpty => {
-                write!(out, "  {name} is empty in several ways: by ")?;
-                self.put_rules(out, &idiom.rules, " and by ")?;
-                writeln!(out, ".")
+                self.put_name(page, "  ", name);
+                page.put(" is empty in several ways: by ");
+                self.put_rules(page, &idiom.rules, " and by ");
+                page.line(".");
             }
-            Form::ListOfLists => writeln!(
-                out,
-                "  A list of lists: {name} stands at both ends of {rule}, so three of them in a row \
-                 are put together in two ways."
-            ),
             Form::Twice => {
-                let again = self.rule(idiom.rules.last().copied().unwrap_or(0));
-                writeln!(out, "  A rule twice: {rule} is the same as {again}.")
+                let (first, again) = (idiom.rules.first(), idiom.rules.last());
+                self.put_rule(page, "  A rule twice: ", first.copied().unwrap_or(0));
+                self.put_rule(page, " is the same as ", again.copied().unwrap_or(0));
+                page.line(".");
             }
-            Form::Alike => writeln!(
-                out,
-                "  The same twice: {name} and {other} have the same rules, so they derive the same."
-            ),
+            form => {
+                let rule = idiom.rules.first().copied().unwrap_or(0);
+                self.put_form(page, form, rule, (name, idiom.other.unwrap_or(name)));
+            }
         }
+    }
+
+    /// Writes what an idiom of one rule, or of none, is.
+    fn put_form<W: Write>(
+        self,
+        page: &mut Page<W>,
+        form: Form,
+        rule: usize,
+        (name, other): (Sym, Sym),
+    ) {
+        match form {
+            Form::EmptyInList => {
+                self.put_name(page, "  A cycle: where ", other);
+                self.put_rule(page, " is empty in ", rule);
+                self.put_name(page, ", ", name);
+                page.put(" derives itself alone, so each of its sentences has trees without end.");
+            }
+            Form::HiddenLeft => {
+                self.put_rule(page, "  Hidden left recursion: in ", rule);
+                self.put_name(page, " ", name);
+                self.put_name(page, " comes after ", other);
+                page.put(", which can be empty, so a parse must know before the first token ");
+                page.put("how many of these come.");
+            }
+            Form::ListOfLists => {
+                self.put_name(page, "  A list of lists: ", name);
+                self.put_rule(page, " stands at both ends of ", rule);
+                page.put(", so three of them in a row are put together in two ways.");
+            }
+            _ => {
+                self.put_name(page, "  The same twice: ", name);
+                self.put_name(page, " and ", other);
+                page.put(" have the same rules, so they derive the same.");
+            }
+        }
+        page.end();
     }
 
     /// Writes which nonterminals stand elsewhere.
-    fn put_moved<W: Write>(self, out: &mut W, rewriting: Rewriting) -> io::Result<()> {
+    fn put_moved<W: Write>(self, page: &mut Page<W>, rewriting: Rewriting) {
         match rewriting {
             Rewriting::Inlined { symbol, rule } => {
-                let (name, rule) = (self.name(symbol), self.rule(rule));
-                write!(
-                    out,
-                    "With the rules of {name} written out in its place in {rule}"
-                )
+                self.put_name(page, "With the rules of ", symbol);
+                self.put_rule(page, " written out in its place in ", rule);
             }
             Rewriting::Merged { symbol, by } => {
-                let (name, by) = (self.name(symbol), self.name(by));
-                write!(
-                    out,
-                    "With {by} in place of {name} everywhere, and each rule once,"
-                )
+                self.put_name(page, "With ", by);
+                self.put_name(page, " in place of ", symbol);
+                page.put(" everywhere, and each rule once,");
             }
             Rewriting::Replaced { symbol, by, rule } => {
-                let (name, by, rule) = (self.name(symbol), self.name(by), self.rule(rule));
-                write!(out, "With {by} in place of {name} in {rule}")
+                self.put_name(page, "With ", by);
+                self.put_name(page, " in place of ", symbol);
+                self.put_rule(page, " in ", rule);
             }
             Rewriting::Opened { one, two } => {
-                write!(out, "With the rules of {}", self.name(one))?;
+                self.put_name(page, "With the rules of ", one);
                 if one != two {
-                    write!(out, " and of {}", self.name(two))?;
+                    self.put_name(page, " and of ", two);
                 }
-                write!(out, " written out where they are used,")
+                page.put(" written out where they are used,");
             }
-            _ => Ok(()),
+            _ => {}
         }
     }
 
     /// Writes how rules are written otherwise.
-    fn put_rewriting<W: Write>(self, out: &mut W, rewriting: Rewriting) -> io::Result<()> {
+    fn put_rewriting<W: Write>(self, page: &mut Page<W>, rewriting: Rewriting) {
         match rewriting {
             Rewriting::Separated { symbol, rule } => {
-                let (name, rule) = (self.name(symbol), self.rule(rule));
-                write!(
-                    out,
-                    "Without {name} in the list's rules but {rule}, and there with one that isn't \
-                     empty,"
-                )
+                self.put_name(page, "Without ", symbol);
+                self.put_rule(page, " in the list's rules but ", rule);
+                page.put(", and there with one that isn't empty,");
             }
             Rewriting::First { rule, before } => {
-                let (rule, before) = (self.rule(rule), self.rule(before));
-                write!(out, "With {rule} before {before}")
+                self.put_rule(page, "With ", rule);
+                self.put_rule(page, " before ", before);
             }
             Rewriting::Listed { rule } => {
-                let name = self.name(left_of(self.grammar, rule).unwrap_or(0));
-                let rule = self.rule(rule);
-                write!(
-                    out,
-                    "With a new nonterminal for the elements, which has the other rules of {name}, \
-                     at the end of {rule} and alone as a rule of {name},"
-                )
+                let name = left_of(self.grammar, rule).unwrap_or(0);
+                page.put("With a new nonterminal for the elements, which has the other rules ");
+                self.put_name(page, "of ", name);
+                self.put_rule(page, ", at the end of ", rule);
+                self.put_name(page, " and alone as a rule of ", name);
+                page.put(",");
             }
             Rewriting::Token { token, next } => {
-                let (token, next) = (self.name(token), self.name(next));
-                write!(
-                    out,
-                    "With another token than {token} before {next}, by the lexer,"
-                )
+                self.put_name(page, "With another token than ", token);
+                self.put_name(page, " before ", next);
+                page.put(", by the lexer,");
             }
-            moved => self.put_moved(out, moved),
+            moved => self.put_moved(page, moved),
         }
     }
 
     /// Writes what comes of a change.
-    fn put_tried<W: Write>(self, out: &mut W, tried: &Tried) -> io::Result<()> {
-        let (left, all) = (tried.left, tried.all);
-        write!(out, "  ")?;
+    fn put_tried<W: Write>(self, page: &mut Page<W>, tried: &Tried) {
+        page.put("  ");
         match tried.change {
-            Change::Without(rule) => write!(out, "Without {}", self.rule(rule))?,
-            Change::Rewritten(rewriting) => self.put_rewriting(out, rewriting)?,
+            Change::Without(rule) => self.put_rule(page, "Without ", rule),
+            Change::Rewritten(rewriting) => self.put_rewriting(page, rewriting),
             _ => {}
         }
-        write!(out, " {left} of {all} {} left", are_left(left, all))?;
+        page.put(" ");
+        page.number(tried.left);
+        page.put(" of ");
+        page.number(tried.all);
+        page.put(" ");
+        page.put(are_left(tried.left, tried.all));
+        page.put(" left");
         if let Change::Rewritten(Rewriting::Token { .. }) = tried.change {
-            return writeln!(out, ".");
+            page.line(".");
+            return;
         }
         match tried.same {
-            Some((most, count)) => writeln!(
-                out,
-                "; the language is the same on all sentences of up to {most} tokens ({count})."
-            ),
-            None => writeln!(out, "; the language stays the same."),
+            Some((most, count)) => {
+                page.put("; the language is the same on all sentences of up to ");
+                page.number(most);
+                page.put(" tokens (");
+                page.number(count);
+                page.line(").");
+            }
+            None => page.line("; the language stays the same."),
         }
     }
 
     /// Writes tokens: `A, B or C`.
-    fn put_tokens<W: Write>(self, out: &mut W, tokens: &[Sym]) -> io::Result<()> {
+    fn put_tokens<W: Write>(self, page: &mut Page<W>, tokens: &[Sym]) {
         let more = tokens.len().saturating_sub(MOST_TOKENS);
         let shown = tokens.len().min(MOST_TOKENS);
         for (place, token) in tokens.iter().take(shown).enumerate() {
@@ -198,35 +221,39 @@ impl<'a> MendText<'a> {
                 _ if is_last => " or ",
                 _ => ", ",
             };
-            write!(out, "{front}{}", self.name(*token))?;
+            self.put_name(page, front, *token);
         }
         if more > 0 {
-            write!(out, " or one of {more} more")?;
+            page.put(" or one of ");
+            page.number(more);
+            page.put(" more");
         }
-        Ok(())
     }
 
     /// Writes what the second token tells.
-    fn put_apart<W: Write>(self, out: &mut W, apart: &Apart) -> io::Result<()> {
-        let (name, rule) = (self.name(apart.token), self.rule(apart.rule));
-        write!(out, "  Two tokens of lookahead decide: after {name} comes ")?;
-        self.put_tokens(out, &apart.other)?;
-        write!(out, " where {rule} is right, and ")?;
-        self.put_tokens(out, &apart.taken)?;
-        writeln!(out, " where it isn't.")
+    fn put_apart<W: Write>(self, page: &mut Page<W>, apart: &Apart) {
+        let front = "  Two tokens of lookahead decide: after ";
+        self.put_name(page, front, apart.token);
+        page.put(" comes ");
+        self.put_tokens(page, &apart.other);
+        self.put_rule(page, " where ", apart.rule);
+        page.put(" is right, and ");
+        self.put_tokens(page, &apart.taken);
+        page.line(" where it isn't.");
     }
 
     /// Writes what is known of a conflict beside its rivals.
     pub fn put<W: Write>(self, out: &mut W, idioms: &[Idiom], mended: &Mended) -> io::Result<()> {
+        let mut page = Page::new(&mut *out, false);
         if let Some(idiom) = idioms.get(mended.idiom.unwrap_or(usize::MAX)) {
-            self.put_idiom(out, idiom)?;
+            self.put_idiom(&mut page, idiom);
         }
         if let Some(apart) = &mended.apart {
-            self.put_apart(out, apart)?;
+            self.put_apart(&mut page, apart);
         }
-        match &mended.tried {
-            Some(tried) => self.put_tried(out, tried),
-            None => Ok(()),
+        if let Some(tried) = &mended.tried {
+            self.put_tried(&mut page, tried);
         }
+        page.checked()
     }
 }

@@ -7,7 +7,7 @@ use indexmap::IndexSet;
 use std::alloc::Global;
 use yexplain::reads::{Made, body_of, has_item, is_kernel, items_of, left_of};
 use ylalr::{Automaton, Item};
-use ysymbols::{Grammar, Sym};
+use ysymbols::{Grammar, Sym, let_go};
 
 /// The most rests that are taken for one end.
 const MOST_TAKEN: usize = 100_000;
@@ -39,7 +39,6 @@ struct Node {
 }
 
 /// A search for an end.
-#[derive(Drop)]
 struct Search<'a> {
     shortest: &'a Shortest,
     automaton: &'a Automaton,
@@ -54,6 +53,15 @@ struct Search<'a> {
     queue: Queue,
     /// How many items were looked at.
     looked: usize,
+}
+
+impl Drop for Search<'_> {
+    // A call in each owner, which keeps their proofs short.
+    fn drop(self) {
+        let_go!(self: Search {
+            shortest, automaton, states, ties, most, nodes, spots, queue, looked
+        });
+    }
 }
 
 /// An end over a stack, and how many items were looked at for it.

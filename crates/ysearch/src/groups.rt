@@ -8,7 +8,7 @@ use yexplain::reads::{
 };
 use yexplain::why::Question;
 use ylalr::Automaton;
-use ysymbols::Sym;
+use ysymbols::{Sym, let_go};
 use ytables::{Class, Conflict, Tables};
 
 /// The most rivals that are shown; kinds are compared by these.
@@ -46,7 +46,6 @@ pub struct Group {
 }
 
 /// All conflicts of tables.
-#[derive(Drop)]
 pub struct Conflicts {
     /// The cells of each kind, in the order of the first states.
     pub groups: Vec<(Kind, Group)>,
@@ -56,6 +55,13 @@ pub struct Conflicts {
     pub cells: usize,
     /// How many of them were met once there were 20,000 kinds, and belong to no group.
     pub others: usize,
+}
+
+impl Drop for Conflicts {
+    // A call in each owner, which keeps their proofs short.
+    fn drop(self) {
+        let_go!(self: Conflicts { groups, places, cells, others });
+    }
 }
 
 impl Kind {

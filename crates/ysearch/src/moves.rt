@@ -6,10 +6,9 @@ use crate::shortest::Shortest;
 use std::alloc::Global;
 use yexplain::reads::{Made, goto_of, items_of, next_of, set};
 use ylalr::Automaton;
-use ysymbols::Sym;
+use ysymbols::{Sym, let_go};
 
 /// The ways between states.
-#[derive(Drop)]
 pub struct Moves {
     /// The symbol that leads to a state: each way to it is over this one.
     symbols: Vec<Sym>,
@@ -19,6 +18,13 @@ pub struct Moves {
     /// The length of the shortest way to a state, and the state before it on that way.
     pub lengths: Nearest,
     from: Vec<usize>,
+}
+
+impl Drop for Moves {
+    // A call in each owner, which keeps their proofs short.
+    fn drop(self) {
+        let_go!(self: Moves { symbols, before, after, lengths, from });
+    }
 }
 
 impl Moves {

@@ -7,7 +7,7 @@ use std::alloc::Global;
 use std::collections::HashSet;
 use yexplain::reads::{Made, body_of};
 use ylalr::Automaton;
-use ysymbols::{Grammar, Sym};
+use ysymbols::{Grammar, Sym, let_go};
 
 /// How many ways are sought.
 const MOST_WAYS: usize = 100;
@@ -19,7 +19,6 @@ const MOST_FORMS: usize = 2_000;
 const MOST_SYMBOLS: usize = 1_000;
 
 /// Forms that wait with the length of their shortest sentences.
-#[derive(Drop)]
 struct Sentences {
     /// All forms that were met.
     met: HashSet<Vec<Sym>>,
@@ -32,8 +31,14 @@ struct Sentences {
     symbols: usize,
 }
 
+impl Drop for Sentences {
+    // A call in each owner, which keeps their proofs short.
+    fn drop(self) {
+        let_go!(self: Sentences { met, forms, queue, left, symbols });
+    }
+}
+
 /// Lists of tokens to come.
-#[derive(Drop)]
 pub struct Others {
     alloc: Global,
     search: Search,
@@ -42,6 +47,13 @@ pub struct Others {
     /// Whether there are no more ways.
     done: bool,
     sentences: Sentences,
+}
+
+impl Drop for Others {
+    // A call in each owner, which keeps their proofs short.
+    fn drop(self) {
+        let_go!(self: Others { alloc, search, way, done, sentences });
+    }
 }
 
 impl Sentences {

@@ -5,7 +5,7 @@ use crate::queue::Queue;
 use std::alloc::Global;
 use yexplain::reads::{Made, body_of, left_of, set};
 use ylalr::{ERROR, Item};
-use ysymbols::{Grammar, Sym};
+use ysymbols::{Grammar, Sym, let_go};
 
 /// What `error` counts for: no list of tokens can have it, so all else is preferred.
 const ERROR_LENGTH: u64 = 10_000;
@@ -31,7 +31,6 @@ pub struct Digest {
 
 /// The length of the shortest sentence of each symbol, at most 1,000,000,000,000, its digest, and
 /// the rule with which that of a nonterminal begins; where symbols stand, and their rules.
-#[derive(Drop)]
 pub struct Shortest {
     lengths: Vec<Option<u64>>,
     digests: Vec<Digest>,
@@ -40,6 +39,13 @@ pub struct Shortest {
     pub places: Lists<Item>,
     /// The rules of each left side.
     pub rules: Lists<usize>,
+}
+
+impl Drop for Shortest {
+    // A call in each owner, which keeps their proofs short.
+    fn drop(self) {
+        let_go!(self: Shortest { lengths, digests, firsts, places, rules });
+    }
 }
 
 /// A rule whose body isn't known yet: how many of its symbols are still to come, and the length of
