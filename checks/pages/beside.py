@@ -1,6 +1,6 @@
 """What a page tells beside the steps of a parse, compared with `ydebug`: the text with the token
-ahead marked, what was expected at errors, the lookaheads of complete items, the drawing of the
-trees, and the conflicts by their causes."""
+ahead marked, the words in trees, what was expected at errors, the lookaheads of complete items, the
+drawing of the trees, and the conflicts by their causes."""
 import json
 import re
 
@@ -52,6 +52,19 @@ return {
   })),
   place: document.getElementById("place").textContent,
 };"""
+
+# The nodes of trees, each with its name and its note: all rows, as for print, and what is drawn.
+NODES = """
+const all = (query) => [...document.querySelectorAll(query)];
+const text = (it) => it.textContent.trim();
+dispatchEvent(new Event("beforeprint"));
+const rows = all("#tree [role=treeitem]").map((it) => it.childNodes);
+const found = [rows.map((it) => [text(it[1]), text(it[2])]),
+  all("#forest g").map((it) => [text(it.children[1]), text(it.children[2])]),
+  all("#forest g").map((it) => it.getAttribute("aria-label"))];
+dispatchEvent(new Event("afterprint"));
+return found;"""
+LEAF = re.compile(r"^ *(?:\(\d+\) )?(\S.*)  (@\d+:\d+)$", re.M)
 
 
 def looked(browser):
@@ -142,6 +155,54 @@ def try_text(count, driver, ydebug, room, shots):
             count.hold(f"{text}: no error in the script", not browser.errors())
             browser.shot(shots / f"text-{text}.png")
             fits(count, text, browser)
+
+
+def words_folder(room):
+    """A language whose texts have words of every kind: literals, long words, bytes of any value."""
+    folder = room / "words"
+    folder.mkdir()
+    (folder / "grammar.y").write_text("%token NAME TEXT\n%%\ns : item | s item ;\n"
+                                      "item : NAME ';' | TEXT ';' ;\n")
+    (folder / "words.lex").write_text('NAME [a-z]+\nTEXT "[^"]*"\n%skip \\s+\n')
+    long = "\u00e9" + "x" * 60
+    (folder / "all").write_text(f'limit ; "\u00e9\t~\\" ;\n  "{long}" ; {"y" * 40} ;\n{"z" * 41};')
+    return folder
+
+
+def try_leaves(count, what, browser, said):
+    """The tokens in trees have the words and places that a session says, in rows and drawn."""
+    wanted = [list(it) for it in LEAF.findall(said)]
+    rows, drawn, labels = browser.run(NODES)
+    leaves = [it for it in rows if it[1].startswith("@")]
+    count.hold(f"{what}: words in rows", leaves == wanted,
+               f"\n  shown  {leaves}\n  wanted {wanted}")
+    leaves = [it for it in drawn if it[1].startswith("@")]
+    count.hold(f"{what}: words that are drawn", all(it in wanted for it in leaves), f"{leaves}")
+    told = all(", ".join(it) in labels for it in leaves)
+    count.hold(f"{what}: words in labels", told, f"{labels}")
+    return len(leaves)
+
+
+def try_words(count, driver, ydebug, room, shots):
+    """Trees have words where tokens were read from a text, as `tree` of a session has them."""
+    folders = [(EXAMPLES / name, f"{name}.lex", text) for name, texts in TEXTS.items()
+               for text in texts]
+    for folder, spec, text in [*folders, (words_folder(room), "words.lex", "all")]:
+        page, words = room / f"words-{text}.html", ["grammar.y", "--lex", spec, text]
+        made = ran([ydebug, "page", *words, "-o", str(page)], folder)
+        count.hold(f"{text}: a page is made", made.returncode == 0, made.stderr)
+        seen = 0
+        with Browser(driver) as browser:
+            browser.go(page.as_uri())
+            last = data_last(browser)
+            for position in (2, last // 2, last - 1):
+                said = asked(ydebug, folder, words, [f"to {position}", "tree all"])
+                browser.go("about:blank")
+                browser.go(f"{page.as_uri()}#{position}")
+                seen += try_leaves(count, f"{text} at {position}", browser, said)
+            count.hold(f"{text}: some words are drawn", seen)
+            count.hold(f"{text}: no error in the script", not browser.errors())
+            browser.shot(shots / f"words-{text}.png")
 
 
 def in_place_of(token, said):

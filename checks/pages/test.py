@@ -18,7 +18,7 @@ import time
 from pathlib import Path
 
 from checks.pages.beside import (
-    try_conflicts, try_drawing, try_expected, try_looks, try_text
+    try_conflicts, try_drawing, try_expected, try_looks, try_text, try_words
 )
 from checks.pages.browser import Browser, Driver, Fault
 from checks.pages.parts import after, before, scripts, style
@@ -307,15 +307,20 @@ def opening(count, browser, page):
 
 
 def try_long(count, driver, ydebug, room, shots):
-    """A page of 20,000 steps opens within two seconds; one of more is refused."""
+    """A page of 20,000 steps opens within two seconds, also one over a text; one of more is
+    refused."""
     folder, page = list_folder(room, MOST_STEPS // 2 - 1), room / "long.html"
-    made = make_page(ydebug, folder, ["grammar.y", "tokens"], page)
-    count.hold("long: 20,000 steps are shown", made.returncode == 0, made.stderr)
-    with Browser(driver) as browser:
-        taken = min(opening(count, browser, page) for _ in range(3))
-        print(f"a page of 20,000 steps, {page.stat().st_size} bytes, opens in {taken:.2f} seconds")
-        count.hold("long: opens within two seconds", taken < 2, taken)
-        whole(browser, shots / "long.png")
+    (folder / "list.lex").write_text("A [a-z]+\n%skip \\s+\n")
+    (folder / "text").write_text("word\n" * (MOST_STEPS // 2 - 1))
+    for what, words in (("tokens", ["tokens"]), ("a text", ["--lex", "list.lex", "text"])):
+        made = make_page(ydebug, folder, ["grammar.y", *words], page)
+        count.hold(f"long: 20,000 steps over {what}", made.returncode == 0, made.stderr)
+        with Browser(driver) as browser:
+            taken = min(opening(count, browser, page) for _ in range(3))
+            size = page.stat().st_size
+            print(f"a page of 20,000 steps over {what}, {size} bytes, opens in {taken:.2f} seconds")
+            count.hold(f"long: {what} within two seconds", taken < 2, taken)
+            whole(browser, shots / "long.png")
     more, page = list_folder(room, MOST_STEPS // 2), room / "more.html"
     made = make_page(ydebug, more, ["grammar.y", "tokens"], page)
     refused = made.returncode == 1 and "--first" in made.stderr and not page.exists()
@@ -386,6 +391,7 @@ def try_all(count, programs, shots):
         attempt(count, "long parses", try_long, driver, ydebug, room, shots)
         attempt(count, "smooth steps", try_smooth, driver, ydebug, room)
         attempt(count, "texts", try_text, driver, ydebug, room, shots)
+        attempt(count, "words", try_words, driver, ydebug, room, shots)
         attempt(count, "what was expected", try_expected, driver, ydebug, room, shots)
         attempt(count, "lookaheads", try_looks, driver, ydebug, room)
         attempt(count, "drawings", try_drawing, driver, ydebug, room, shots)

@@ -73,6 +73,24 @@ class Pages(Planted):
                 made = self.counted(lambda count, it=given: beside.try_places(count, *it))
                 self.assertEqual(made[1], len(change), change)
 
+    def test_leaves(self):
+        """Another word, none, another place, and a token that lacks are caught in trees."""
+        said = "s  rule 1\n  NUM 20  @2:4\n  '+'  @3:1\n(41) NUM 1..  @3:2\nA  (inserted)\n"
+        leaves = [["NUM 20", "@2:4"], ["'+'", "@3:1"], ["NUM 1..", "@3:2"]]
+        others = [["s", "rule 1 (line 3)"], ["A", ""]]
+        for wrong in (None, ["NUM", "@2:4"], ["NUM 2", "@2:4"], ["NUM 20", "@1"]):
+            shown = [wrong or leaves[0], *leaves[1:]]
+            labels = [", ".join(it) for it in shown]
+            for rows, drawn, told, failed in (
+                (shown, leaves, labels + ["NUM 20, @2:4"], 1), (leaves, shown, labels, 1),
+                (leaves, leaves, labels, 1), (shown[1:], leaves[1:], labels, 1)
+            ):
+                browser = mock.Mock(**{"run.return_value": (others + rows, others + drawn, told)})
+                made = self.counted(lambda count, it=browser: beside.try_leaves(
+                    count, "it", it, said))
+                is_right = wrong is None and len(rows) == 3
+                self.assertEqual(made[1], 0 if is_right else failed, f"{wrong} {rows}")
+
     def test_lint(self):
         """A line that is too long, ends in a blank, or runs what comes from a file."""
         for line, failed in (

@@ -7,6 +7,7 @@ use std::str;
 use yexplain::lines::Spots;
 use yexplain::reads::Made;
 use yinput::Parse;
+use yinput::spelled::MOST_OF_WORD;
 use yinput::text::Text;
 use yparse::Session;
 use yparse::machine::StepKind;
@@ -37,12 +38,14 @@ pub struct Input {
     /// The text around these tokens, and the line and the column at which it begins.
     text: String,
     from: (usize, usize),
+    /// The most bytes of a word that are shown beside its token.
+    word: usize,
 }
 
 impl Drop for Input {
     // A call in each owner, which keeps their proofs short.
     fn drop(self) {
-        let_go!(self: Input { count, taken, skipped, symbols, places, text, from });
+        let_go!(self: Input { count, taken, skipped, symbols, places, text, from, word });
     }
 }
 
@@ -151,6 +154,7 @@ impl Input {
             places: Vec::new(alloc),
             text: String::new(alloc),
             from: (1, 1),
+            word: MOST_OF_WORD,
         };
         if let Some(text) = &parse.text {
             input.add_text(alloc, text)?;

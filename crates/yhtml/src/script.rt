@@ -55,8 +55,8 @@ function push(position, node, state) {
   position.top = { node, state, below, depth: below ? below.depth + 1 : 1 };
 }
 
-/* A tree without children; each has the number of its leaves. */
-const leaf = (symbol, note) => ({ symbol, note, children: [], leaves: 1 });
+/* A tree without children; each has the number of its leaves. A token has its place. */
+const leaf = (symbol, note, place) => ({ symbol, note, place, children: [], leaves: 1 });
 
 function reduce(position, rule) {
   const [symbol] = data.table.rules[rule], note = ruleName(rule);
@@ -86,9 +86,9 @@ const KINDS = {
   s: {
     text: (step) => `shift ${name(step.token)}`,
     make(position, step, numbers) {
-      position.taken += 1;
+      const place = position.taken++;
       position.counter = Math.max(0, position.counter - 1);
-      step.node = leaf(step.token, `@${position.taken}`);
+      step.node = leaf(step.token, `@${position.taken}`, place);
       push(position, step.node, numbers.state());
     },
   },

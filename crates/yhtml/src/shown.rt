@@ -20,6 +20,28 @@ function bytesBefore(line, column) {
   return line === first ? column - begun : source.starts[line - first] + column - 1;
 }
 
+/* The line, the column and the bytes of the token at a place, if it was read from a text. */
+const spotOf = (place) => data.input.places[place - data.input.skipped];
+
+/* A byte of a word as sessions write it. */
+const letter = (byte) => byte < 32 || byte > 126 ? `\\x${byte.toString(16).padStart(2, "0")}`
+  : String.fromCharCode(byte);
+
+/* What a node is called: its symbol, and the word of a token, unless it is a literal. */
+function called({ symbol, place }) {
+  const found = spotOf(place), text = name(symbol);
+  if (!found || text.startsWith("'")) return text;
+  const [line, column, length] = found, begin = bytesBefore(line, column), most = data.input.word;
+  const word = Array.from(source.bytes.subarray(begin, begin + Math.min(length, most)), letter);
+  return `${text} ${word.join("")}${length > most ? ".." : ""}`;
+}
+
+/* What is noted of a node: of a token of a text where it stands there. */
+function noted({ note, place }) {
+  const found = spotOf(place);
+  return found ? `@${found[0]}:${found[1]}` : note;
+}
+
 /* Where what is shown around some bytes begins and ends: at a line where one is near, and else
    between two characters. */
 function around(begin, end) {
@@ -52,10 +74,10 @@ function sourceLines(texts, number) {
 
 /* The text around the token ahead, which is marked; the end has no bytes, and is named. */
 function showSource() {
-  const { taken } = here(), spot = data.input.places[taken - data.input.skipped];
-  if (!spot || source.shown === taken) return;
+  const { taken } = here(), found = spotOf(taken);
+  if (!found || source.shown === taken) return;
   source.shown = taken;
-  const [line, column, length] = spot, begin = bytesBefore(line, column), end = begin + length;
+  const [line, column, length] = found, begin = bytesBefore(line, column), end = begin + length;
   const [from, to] = around(begin, end), decoder = new TextDecoder("utf-8", { ignoreBOM: true });
   const cut = (some, other) => decoder.decode(source.bytes.subarray(some, other));
   const before = cut(from, begin), number = line - before.split("\n").length + 1;
@@ -65,7 +87,7 @@ function showSource() {
 
 /* Where a token stands in the text that it was read from, if it was read from one. */
 function spot(place) {
-  const found = data.input.places[place - data.input.skipped];
+  const found = spotOf(place);
   return found ? ` at ${found[0]}:${found[1]}` : "";
 }
 

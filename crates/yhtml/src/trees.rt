@@ -39,12 +39,12 @@ const childrenDrawn = (node) => (unfolded.has(node) ? node.children : []);
 function noteOf(node) {
   if (node.children.length && !unfolded.has(node))
     return node.leaves === 1 ? "1 leaf" : `${node.leaves} leaves`;
-  return node.rule === undefined ? node.note : `rule ${node.rule}`;
+  return node.rule === undefined ? noted(node) : `rule ${node.rule}`;
 }
 
 /* How wide nodes are, by themselves and with all that is drawn below them. */
 function measure(node, widths) {
-  const letters = Math.max(name(node.symbol).length, noteOf(node).length);
+  const letters = Math.max(called(node).length, noteOf(node).length);
   const own = letters * LETTER + SPACE;
   let below = 0;
   for (const child of childrenDrawn(node)) below += measure(child, widths);
@@ -86,7 +86,7 @@ function set(element, attributes) {
 function shapeOf(node) {
   if (shapes.has(node)) return shapes.get(node);
   const group = shape("g", { role: "treeitem", id: `node${shapeCount++}` },
-    shape("rect", { y: -20, height: 40, rx: 5 }), shape("text", { y: -3 }, name(node.symbol)),
+    shape("rect", { y: -20, height: 40, rx: 5 }), shape("text", { y: -3 }, called(node)),
     shape("text", { y: 14 }));
   group.onclick = () => fold(node, unfolded.has(node));
   shapes.set(node, group);
@@ -102,7 +102,7 @@ function drawNode({ node, x, own, level, place, of }, before) {
   set(rect, { x: 3 - own / 2, width: own - 6 });
   set(group, { transform: `translate(${x} ${(level - 0.5) * LEVEL})`, "aria-level": level,
     "aria-posinset": place, "aria-setsize": of, class: kinds.filter(Boolean).join(" "),
-    "aria-label": `${name(node.symbol)}, ${node.note}${inner && !open ? `, ${note} below` : ""}` });
+    "aria-label": `${called(node)}, ${noted(node)}${inner && !open ? `, ${note} below` : ""}` });
   if (inner) set(group, { "aria-expanded": open });
   if (text.textContent !== note) text.textContent = note;
   if (before.nextSibling !== group) before.after(group);
@@ -196,7 +196,7 @@ function treeRow({ node, level, place, of }, index) {
   const sign = make("span", { "aria-hidden": "true" }, inner ? "\u25b8\u25be"[Number(open)] : " ");
   const row = make("div", { role: "treeitem", id: `row${index}`, "aria-level": level,
     "aria-posinset": place, "aria-setsize": of });
-  row.append(sign, ` ${name(node.symbol)}`, faint(`  ${node.note}`));
+  row.append(sign, ` ${called(node)}`, faint(`  ${noted(node)}`));
   if (inner) row.setAttribute("aria-expanded", open);
   row.classList.toggle("new", Boolean(step && step.node === node));
   row.classList.toggle("active", node === active);

@@ -6,7 +6,7 @@
 //! `fault` why there are none. `source` opens parses, and `parse` is one. `course` is a parse
 //! by states alone, `expected` has the tokens that can come over these, `verdict` what comes of an
 //! input, and `verdict_text` writes that for people and as plain lines. `reported` has all errors of an
-//! input that the grammar recovers from.
+//! input that the grammar recovers from, one after another.
 #![tactic(auto)]
 
 mod course;

@@ -9,7 +9,7 @@ use ylalr::END;
 use ysymbols::{Grammar, Sym};
 
 /// The most bytes of a word that are shown.
-const MOST_OF_WORD: usize = 40;
+pub const MOST_OF_WORD: usize = 40;
 
 /// What people call a symbol of which nothing else is said, and whose name says little: the end,
 /// and the newline as a literal.

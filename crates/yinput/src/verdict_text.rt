@@ -15,7 +15,7 @@ use ytables::Tables;
 const MOST_NAMED: usize = 20;
 
 /// What is said where no verdict came within the steps that are made.
-const UNDECIDED: &str = "undecided after 1,000,000 steps";
+pub const UNDECIDED: &str = "undecided after 1,000,000 steps";
 
 impl Verdict {
     /// What is wrong with an input, where it isn't accepted. Of a rejection it says this message,
@@ -135,8 +135,8 @@ fn note_before(
 
 impl Rejection {
     /// Writes a message, where there is one, or that the token, which is this word of a text, can't
-    /// come, and which can.
-    fn put_token<W: Write>(
+    /// come, and which can. Where that is, the caller says.
+    pub fn put_token<W: Write>(
         &self,
         out: &mut W,
         spoken: Spoken<'_>,
@@ -177,7 +177,7 @@ impl Rejection {
 
     /// What is said of it: at its place in a text, with the line there, or of a tokens file with
     /// the tokens before it.
-    fn diagnostic(
+    pub fn diagnostic(
         &self,
         alloc: Global,
         spoken: Spoken<'_>,

@@ -5,6 +5,8 @@ use std::alloc::AllocError;
 /// What is wrong with a SPEC: what each says is its `text`.
 #[derive(Clone, Copy, Drop)]
 pub enum Wrong {
+    /// A line that begins with `%%`, as each grammar has one, and no SPEC.
+    Grammar,
     NoText,
     Directive,
     Missing,
@@ -70,6 +72,7 @@ impl Wrong {
     /// What is said of it.
     pub fn text(self) -> &'static str {
         match self {
+            Wrong::Grammar => "this is a grammar, no SPEC",
             Wrong::NoText => "this line is no text in UTF-8",
             Wrong::Directive => "no directive of a SPEC; there are %skip, %keywords and %none",
             Wrong::Missing => "nothing stands after the name",

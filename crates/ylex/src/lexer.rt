@@ -8,7 +8,7 @@ use regex::Error;
 use regex::bytes::{Matcher, Regex};
 use std::alloc::{AllocError, Global};
 use yexplain::reads::{Made, name_of};
-use ysymbols::{Grammar, Sym};
+use ysymbols::{Grammar, Sym, let_go};
 use ytokens::tokens::Tokens;
 
 /// The most tokens of a text.
@@ -47,7 +47,6 @@ impl Found {
 }
 
 /// What cuts texts.
-#[derive(Drop)]
 pub struct Lexer {
     /// The words that stand for themselves.
     pub(crate) words: Vec<Word>,
@@ -61,6 +60,13 @@ pub struct Lexer {
     pub named: Vec<bool>,
     /// The texts of tokens, none of them tried.
     plain: Texts,
+}
+
+impl Drop for Lexer {
+    // A call in each owner, which keeps their proofs short.
+    fn drop(self) {
+        let_go!(self: Lexer { words, literals, tokens, regexes, named, plain });
+    }
 }
 
 /// A text on its way to be cut.

@@ -237,6 +237,7 @@ impl<'a> Spec<'a> {
                 self.add_names(alloc, grammar, words, Listed::Words(case), faults)
             }
             b"%none" => self.add_names(alloc, grammar, rest, Listed::Absent, faults),
+            b"%%" => Err(SpecFault::At(line.at, Wrong::Grammar)),
             [b'%', ..] => Err(SpecFault::At(line.at, Wrong::Directive)),
             _ => {
                 let token = token_of(grammar, line)?;
@@ -247,7 +248,8 @@ impl<'a> Spec<'a> {
     }
 }
 
-/// What a SPEC says; what is wrong with its lines is kept, in their order.
+/// What a SPEC says; what is wrong with its lines is kept, in their order. Of a grammar only that it
+/// is one is kept.
 pub fn read_spec<'a>(
     alloc: Global,
     grammar: &Grammar,
@@ -268,6 +270,12 @@ pub fn read_spec<'a>(
         let line = Piece { bytes: line, at }.after(0);
         let added = spec.add_line(alloc, grammar, line, faults);
         keep(faults, added)?;
+        if let Some((mark, Wrong::Grammar)) = faults.last().copied() {
+            faults.clear();
+            spec.rules.clear();
+            faults.push((mark, Wrong::Grammar))?;
+            break;
+        }
         at = at.saturating_add(bytes.len()).saturating_add(1);
     }
     Ok(spec)

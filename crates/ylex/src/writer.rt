@@ -11,7 +11,7 @@ use regex_hir::Hir;
 use std::alloc::{AllocError, Global};
 use std::io::{self, ErrorKind};
 use yexplain::reads::{Made, name_of};
-use ysymbols::{Grammar, Sym};
+use ysymbols::{Grammar, Sym, let_go};
 
 /// How many choices of an expression take other ways, one at a time, and how many ways each.
 const MOST_CHOICES: usize = 12;
@@ -19,7 +19,6 @@ const MOST_CHOICES: usize = 12;
 const MOST_WAYS: usize = 3;
 
 /// What writes lists of tokens as texts.
-#[derive(Drop)]
 pub struct Writer {
     /// What cuts the texts.
     pub lexer: Lexer,
@@ -27,6 +26,13 @@ pub struct Writer {
     samples: Vec<Option<Vec<u8>>>,
     /// What may stand between tokens, in the order in which it is tried; nothing is the last.
     pub separators: Vec<Vec<u8>>,
+}
+
+impl Drop for Writer {
+    // A call in each owner, which keeps their proofs short.
+    fn drop(self) {
+        let_go!(self: Writer { lexer, samples, separators });
+    }
 }
 
 /// What texts are tried with.

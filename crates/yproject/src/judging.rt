@@ -3,7 +3,6 @@
 use crate::expected::Expected;
 use std::alloc::Global;
 use std::io::{self, Write};
-use std::mem;
 use std::rt::Files;
 use ydiagnostics::messaged::Messaged;
 use yfiles::diagnostic::Diagnostics;
@@ -11,6 +10,7 @@ use yinput::fault::Fault;
 use yinput::grammars::GrammarFile;
 use yinput::language::Input;
 use yinput::verdict::Verdict;
+use yinput::verdict_text::UNDECIDED;
 
 /// What came of an input.
 #[derive(Drop)]
@@ -24,34 +24,33 @@ pub enum Came {
 }
 
 impl Came {
-    /// The verdict on an input of a path. The place is its line and column in a text, and of a
-    /// tokens file the number of its token; the message is what `ydebug check` says after it.
+    /// The verdict on an input. The place is its line and column in a text, and of a tokens file
+    /// the number of its token; the message is what `ydebug check` says after it.
     pub fn of_verdict(
         alloc: Global,
         told: &Messaged,
-        (path, input): (&str, &Input),
+        input: &Input,
         verdict: &Verdict,
     ) -> io::Result<Came> {
+        let rejection = match verdict {
+            Verdict::Accepted(steps) => return Ok(Came::Accepted(*steps)),
+            Verdict::Undecided => {
+                let why = Vec::from_slice(alloc, UNDECIDED.as_bytes())?;
+                return Ok(Came::Unjudged(verdict.status(), why));
+            }
+            Verdict::Rejected(rejection) => rejection,
+        };
         let message = told.message(alloc, input, verdict)?;
         let message = message.as_ref().map(Vec::as_slice);
-        let spoken = told.language.spoken();
-        let one = verdict.diagnostic(alloc, spoken, path, input, message)?;
-        let (spot, said) = match one {
-            Some(mut one) => (one.spot, mem::replace(&mut one.message, Vec::new(alloc))),
-            None => (None, Vec::new(alloc)),
-        };
-        let mut place = Vec::new(alloc);
-        match (verdict, spot) {
-            (Verdict::Accepted(steps), _) => return Ok(Came::Accepted(*steps)),
-            (Verdict::Undecided, _) => return Ok(Came::Unjudged(verdict.status(), said)),
-            (Verdict::Rejected(_), Some(spot)) => write!(place, "{spot}")?,
-            (Verdict::Rejected(rejection), None) => {
-                let number = rejection.number;
-                write!(place, "token {number}")?;
-                let front = format!(in alloc; "rejected at token {number}: ")?;
-                let rest = said.strip_prefix(front.as_bytes()).unwrap_or(&said);
-                return Ok(Came::Rejected(place, Vec::from_slice(alloc, rest)?));
-            }
+        let (spoken, number) = (told.language.spoken(), rejection.number);
+        let (mut place, mut said) = (Vec::new(alloc), Vec::new(alloc));
+        if let Some(text) = &input.text {
+            let spot = text.place(number).spot();
+            write!(place, "{spot}")?;
+            rejection.put_token(&mut said, spoken, text.word(number), message)?;
+        } else {
+            write!(place, "token {number}")?;
+            rejection.put_token(&mut said, spoken, &[], message)?;
         }
         Ok(Came::Rejected(place, said))
     }

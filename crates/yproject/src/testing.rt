@@ -65,7 +65,7 @@ impl Asked<'_> {
         };
         let verdict = verdict_on(alloc, &language.opened.tables, &input.tokens)?;
         tally.meet(told, &verdict);
-        let came = Came::of_verdict(alloc, told, (path, &input), &verdict)?;
+        let came = Came::of_verdict(alloc, told, &input, &verdict)?;
         if is_good {
             tally.good.push(input).map_err(AllocError::from)?;
         }

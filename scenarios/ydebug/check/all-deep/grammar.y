@@ -1,0 +1,8 @@
+%token A B
+%%
+list : item
+     | item list
+     ;
+item : A A A ';'
+     | error ';'
+     ;

@@ -1,0 +1,3 @@
+%skip [ \n]+
+NAME [a-z]+
+NUM [0-9]+
