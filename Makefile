@@ -75,6 +75,7 @@ debug: build
 
 editors: build
 	@$(checks) editors $(call at,ydebug)
+	@$(checks) babble-server $(call at,ydebug)
 
 page-test: build
 	@$(checks) pages --install $(call at,ydebug ystep)

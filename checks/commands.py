@@ -33,6 +33,7 @@ GROUPS = {
         "pages": "pages.test",
         "page-sums": "pages.sums",
         "editors": "editors.run",
+        "babble-server": "editors.babble",
     },
     "parsers and drivers": {
         "parsers": "parsers.parsers",

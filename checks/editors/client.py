@@ -84,8 +84,19 @@ class Client:
         it = {"textDocument": {"uri": uri, "version": version}, "contentChanges": changes}
         self.tell("textDocument/didChange", it)
 
+    def last(self, uri, version):
+        """What is said of a version of a file in the end, when all is known of it."""
+        wanted, told = {"uri": uri, "version": version}, []
+        place = {"line": 0, "character": 0}
+        about = {"textDocument": {"uri": uri}, "range": {"start": place, "end": place}}
+        self.number += 1
+        self.send({"id": self.number, "method": "textDocument/codeAction", "params": about})
+        self.next(lambda it: told.append(it) or it.get("id") == self.number)
+        found = [it["params"] for it in told if wanted.items() <= it.get("params", {}).items()]
+        return found[-1]["diagnostics"] if found else None
+
     def said(self, uri, version):
-        """What is said of a version of a file."""
+        """What is said of a version of a file at first."""
         wanted = {"uri": uri, "version": version}
         told = self.next(lambda it: wanted.items() <= it.get("params", {}).items())
         return told["params"]["diagnostics"]

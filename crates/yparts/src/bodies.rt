@@ -12,18 +12,51 @@ pub fn inner(text: &[u8]) -> &[u8] {
     inner.unwrap_or(&[]).trim_ascii()
 }
 
-impl<'a> Gather<'a, '_> {
-    /// Names the value at a place of a body by its symbol.
-    fn name_value(&mut self, symbol: &'a [u8], place: usize) -> Made<()> {
-        let name = symbol;
-        self.parts.names.push(Named {
-            name,
-            symbol,
-            place,
-        })?;
-        Ok(())
+/// The values of a body while its lexemes come.
+#[derive(Clone, Copy)]
+pub struct Body {
+    /// How many symbols and actions came.
+    place: usize,
+    /// Whether the lexeme before is a directive, whose symbol has no value.
+    is_prec: bool,
+}
+
+impl Body {
+    /// That of a body of which nothing came.
+    pub fn new() -> Body {
+        Body {
+            place: 0,
+            is_prec: false,
+        }
     }
 
+    /// Takes in a lexeme with this text: a symbol or an action is the next value, a name in brackets
+    /// is that of the last one.
+    pub fn take<'a>(&mut self, names: &mut Vec<Named<'a>>, kind: Kind, text: &'a [u8]) -> Made<()> {
+        let is_value = kind == Kind::Braced || is_symbol(kind) && !self.is_prec;
+        self.is_prec = kind == Kind::Word;
+        if kind == Kind::Reference {
+            if let Some(named) = names.last_mut() {
+                named.name = inner(text);
+            }
+        }
+        if is_value {
+            self.place = self.place.saturating_add(1);
+            let name = match kind {
+                Kind::Braced => text.get(..0).unwrap_or(text),
+                _ => text,
+            };
+            names.push(Named {
+                name,
+                symbol: name,
+                place: self.place,
+            })?;
+        }
+        Ok(())
+    }
+}
+
+impl<'a> Gather<'a, '_> {
     /// Takes in a body, whose left side is the last one, after a sign on a line.
     pub fn take_body(&mut self, lexemes: &[Lexeme], sign: usize) -> Made<()> {
         let (source, names) = (self.source, self.parts.names.len());
@@ -35,24 +68,17 @@ impl<'a> Gather<'a, '_> {
             }
         }
         self.parts.lines.push(line)?;
-        // how many symbols and actions came, and the tag of the action that comes
-        let mut place: usize = 0;
+        // the tag of the action that comes
         let mut tag: Option<&[u8]> = None;
-        let mut is_prec = false;
+        let mut body = Body::new();
         self.parts.names.push(self.left)?;
         for lexeme in lexemes {
             let name = lexeme.text(source);
             self.see_lexeme(lexeme, true);
+            body.take(&mut self.parts.names, lexeme.kind, name)?;
             match lexeme.kind {
                 Kind::Tag => tag = Some(inner(name)),
-                Kind::Reference => {
-                    if let Some(named) = self.parts.names.last_mut() {
-                        named.name = inner(name);
-                    }
-                }
                 Kind::Braced => {
-                    place = place.saturating_add(1);
-                    self.name_value(b"", place)?;
                     let piece = self.piece(lexeme);
                     self.actions.push(piece)?;
                     self.action_tags.push(tag)?;
@@ -60,14 +86,9 @@ impl<'a> Gather<'a, '_> {
                 }
                 kind if is_symbol(kind) => {
                     self.see_symbol(lexeme, None, By::Name)?;
-                    if !is_prec {
-                        place = place.saturating_add(1);
-                        self.name_value(name, place)?;
-                    }
                 }
                 _ => {}
             }
-            is_prec = lexeme.kind == Kind::Word;
         }
         Ok(())
     }

@@ -2,7 +2,7 @@
 
 use crate::bodies::inner;
 use crate::gather::Gather;
-use crate::options::{Errors, Header, Purity, language_of, skeleton_of};
+use crate::options::{Errors, Header, Options, Purity, language_of, skeleton_of};
 use crate::params::param_at;
 use crate::parts::{
     Block, By, Care, Deed, Defined, Mention, Numbered, Piece, Taker, Target, Whose,
@@ -23,6 +23,51 @@ fn between<'a>(piece: Piece<'a>, signs: usize) -> Piece<'a> {
         text: piece.text.get(signs..end).unwrap_or(&[]),
         at: piece.at.saturating_add(signs),
         line: piece.line,
+    }
+}
+
+/// Where code for the same values stands before, the first of it.
+fn care_before<'a>(cares: &[Care<'a>], deed: Deed, whose: Whose<'a>) -> Option<usize> {
+    for care in cares {
+        if care.deed == deed && care.whose == whose {
+            return Some(care.piece.at);
+        }
+    }
+    None
+}
+
+/// Where a variable has another value before, the last such place.
+fn other_before(all: &[Defined<'_>], name: &[u8], value: &[u8]) -> Option<usize> {
+    let mut before = None;
+    for defined in all {
+        if defined.name == name && defined.value != value {
+            before = Some(defined.at);
+        }
+    }
+    before
+}
+
+/// Sets an option as a directive asks for, which may have a string.
+fn set_option<'a>(options: &mut Options<'a>, word: Word, string: Option<&'a [u8]>) {
+    match word {
+        Word::Pure => options.purity = Purity::Yes,
+        Word::Locations => options.locations = true,
+        Word::ErrorVerbose => options.errors = Errors::Verbose,
+        Word::Trace => options.trace = true,
+        Word::Names => options.has_names = true,
+        Word::NoLines => options.no_lines = true,
+        Word::Report => options.verbose = true,
+        Word::Yacc => options.is_yacc = true,
+        Word::Header => {
+            options.header = match string {
+                Some(path) => Header::At(path),
+                None => Header::Beside,
+            };
+        }
+        Word::Output => options.output = string,
+        Word::FilePrefix => options.file_prefix = string,
+        Word::NamePrefix => options.name_prefix = string,
+        _ => {}
     }
 }
 
@@ -143,24 +188,16 @@ impl<'a> Gather<'a, '_> {
                     let by = By::Name;
                     self.parts.mentioned.push(Mention { symbol, by })?;
                 }
-                let mut before = None;
-                for care in &self.parts.cares {
-                    if care.deed == deed && care.whose == whose {
-                        before = before.or(Some(care.piece.at));
-                    }
-                }
+                let before = care_before(&self.parts.cares, deed, whose);
                 if before.is_some() {
                     let name = lexeme.text(self.source);
-                    let second = Refused::new(Refusal::SecondCare, piece.at, name);
-                    let value = match deed {
+                    let mut second = Refused::new(Refusal::SecondCare, piece.at, name);
+                    second.value = match deed {
                         Deed::Destroy => b"%destructor".as_slice(),
                         Deed::Print => b"%printer".as_slice(),
                     };
-                    self.second.push(Refused {
-                        value,
-                        before,
-                        ..second
-                    })?;
+                    second.before = before;
+                    self.second.push(second)?;
                 }
                 self.parts.cares.push(Care { deed, whose, piece })?;
             }
@@ -185,12 +222,7 @@ impl<'a> Gather<'a, '_> {
             }
         }
         let name = named.text(self.source);
-        let mut before = None;
-        for defined in &self.defined {
-            if defined.name == name && defined.value != value {
-                before = Some(defined.at);
-            }
-        }
+        let before = other_before(&self.defined, name, value);
         if before.is_some() {
             let again = Refused::new(Refusal::Redefined, at, name);
             return self.refuse(Refused { before, ..again });
@@ -238,32 +270,6 @@ impl<'a> Gather<'a, '_> {
         }
     }
 
-    /// Takes in a directive that sets an option.
-    fn take_option(&mut self, word: Word, rest: &[Lexeme]) {
-        let string = self.string(rest);
-        let options = &mut self.parts.options;
-        match word {
-            Word::Pure => options.purity = Purity::Yes,
-            Word::Locations => options.locations = true,
-            Word::ErrorVerbose => options.errors = Errors::Verbose,
-            Word::Trace => options.trace = true,
-            Word::Names => options.has_names = true,
-            Word::NoLines => options.no_lines = true,
-            Word::Report => options.verbose = true,
-            Word::Yacc => options.is_yacc = true,
-            Word::Header => {
-                options.header = match string {
-                    Some(path) => Header::At(path),
-                    None => Header::Beside,
-                };
-            }
-            Word::Output => options.output = string,
-            Word::FilePrefix => options.file_prefix = string,
-            Word::NamePrefix => options.name_prefix = string,
-            _ => {}
-        }
-    }
-
     /// Takes in a directive that stands for nothing in the grammar.
     pub fn take_aside(&mut self, word: &Lexeme, rest: &[Lexeme]) -> Made<()> {
         match word_of(word.text(self.source)) {
@@ -279,7 +285,8 @@ impl<'a> Gather<'a, '_> {
             Word::Skeleton => self.take_language(rest, true),
             Word::Require => self.take_version(rest),
             word => {
-                self.take_option(word, rest);
+                let string = self.string(rest);
+                set_option(&mut self.parts.options, word, string);
                 Ok(())
             }
         }

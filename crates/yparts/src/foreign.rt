@@ -2,7 +2,7 @@
 
 use crate::gather::Gather;
 use crate::options::Language;
-use crate::parts::{By, Named, Parts, Piece, Target};
+use crate::parts::{By, Defined, Named, Parts, Piece, Target};
 use crate::refusal::{Refusal, Refused};
 use crate::words::is_only_bison;
 use std::alloc::Global;
@@ -14,6 +14,33 @@ use yforeign::groups::{Group, Head, groups_of};
 use yforeign::lexeme::Lexeme;
 use yimport::import::Imported;
 use ysymbols::Grammar;
+
+/// Refuses a variable with the type of values where these have a union.
+fn refuse_types<'a>(parts: &mut Parts<'a>, all: &[Defined<'a>]) -> Made<()> {
+    let mut has_union = false;
+    for block in &parts.blocks {
+        has_union = has_union || block.target == Target::Union;
+    }
+    for defined in all {
+        if has_union && defined.name == b"api.value.type".as_slice() {
+            let refused = Refused::new(Refusal::Values, defined.at, defined.name);
+            parts.refused.push(refused)?;
+        }
+    }
+    Ok(())
+}
+
+/// Refuses the variables that a parser of this language doesn't have.
+fn refuse_variables<'a>(parts: &mut Parts<'a>, all: &[Defined<'a>]) -> Made<()> {
+    for defined in all {
+        if let Some(refusal) = parts.options.refusal_of(defined.name) {
+            let mut refused = Refused::new(refusal, defined.at, defined.name);
+            refused.value = defined.value;
+            parts.refused.push(refused)?;
+        }
+    }
+    Ok(())
+}
 
 impl<'a> Gather<'a, '_> {
     /// Takes in a declaration.
@@ -78,16 +105,7 @@ impl<'a> Gather<'a, '_> {
 
     /// Refuses what bison doesn't take beside each other, in a file of bison.
     fn refuse_doubles(&mut self) -> Made<()> {
-        let mut has_union = false;
-        for block in &self.parts.blocks {
-            has_union = has_union || block.target == Target::Union;
-        }
-        for defined in &self.defined {
-            if has_union && defined.name == b"api.value.type".as_slice() {
-                let refused = Refused::new(Refusal::Values, defined.at, defined.name);
-                self.parts.refused.push(refused)?;
-            }
-        }
+        refuse_types(&mut self.parts, &self.defined)?;
         if self.parts.options.raw {
             for at in &self.literals {
                 let refused = Refused::new(Refusal::Literal, *at, b"");
@@ -102,19 +120,6 @@ impl<'a> Gather<'a, '_> {
         Ok(())
     }
 
-    /// Refuses the variables that a parser of this language doesn't have.
-    fn refuse_variables(&mut self) -> Made<()> {
-        let options = self.parts.options;
-        for defined in &self.defined {
-            if let Some(refusal) = options.refusal_of(defined.name) {
-                let mut refused = Refused::new(refusal, defined.at, defined.name);
-                refused.value = defined.value;
-                self.parts.refused.push(refused)?;
-            }
-        }
-        Ok(())
-    }
-
     /// Takes in all groups, where words may wish for another language.
     fn take_all(&mut self, groups: &[Group<'_>], wished: Wished) -> Made<()> {
         for group in groups {
@@ -124,7 +129,7 @@ impl<'a> Gather<'a, '_> {
         options.language = wished.language.or(options.language);
         options.skeleton = wished.skeleton.or(options.skeleton);
         self.refuse_doubles()?;
-        self.refuse_variables()?;
+        refuse_variables(&mut self.parts, &self.defined)?;
         self.parts.refused.sort_by_key(|it| it.at)?;
         self.label_all()?;
         let actions = mem::replace(&mut self.actions, Vec::new(self.alloc));

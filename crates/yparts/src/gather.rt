@@ -47,6 +47,17 @@ impl Drop for Gather<'_, '_> {
     }
 }
 
+/// Adds a name of the end that isn't there yet.
+fn add_end<'a>(ends: &mut Vec<&'a [u8]>, name: &'a [u8]) -> Made<()> {
+    for end in ends.iter() {
+        if *end == name {
+            return Ok(());
+        }
+    }
+    ends.push(name)?;
+    Ok(())
+}
+
 impl<'a, 'b> Gather<'a, 'b> {
     /// The text of a lexeme.
     pub fn piece(&self, lexeme: &Lexeme) -> Piece<'a> {
@@ -104,13 +115,7 @@ impl<'a, 'b> Gather<'a, 'b> {
         };
         self.parts.mentioned.push(Mention { symbol, by })?;
         if symbol == 0 && lexeme.kind == Kind::Name {
-            let mut is_new = true;
-            for end in &self.parts.ends {
-                is_new = is_new && *end != text;
-            }
-            if is_new {
-                self.parts.ends.push(text)?;
-            }
+            add_end(&mut self.parts.ends, text)?;
         }
         let is_made = self.imported.spelling.is_made(self.source, lexeme);
         if let Some(looks) = self.parts.looks.get_mut(symbol) {

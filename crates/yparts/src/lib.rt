@@ -4,10 +4,10 @@
 //! `parts` has the forms. `native` finds them in a file that `yacc` reads, by its source map, and
 //! `foreign` in one of byacc or bison, by the lexemes of its import (`gather`): `words` knows the
 //! directives, `defines` the variables of `%define`, `params` what stands in a list of parameters,
-//! and `bodies` the names of values.
+//! and `bodies` the names of values, which it lends.
 #![tactic(auto)]
 
-mod bodies;
+pub mod bodies;
 mod declared;
 pub mod defines;
 pub mod foreign;

@@ -5,7 +5,7 @@ use crate::refusal::Refused;
 use std::alloc::Global;
 use yexplain::lines::is_inner;
 use yexplain::reads::Made;
-use ysymbols::{Grammar, Sym};
+use ysymbols::{Grammar, Sym, let_go};
 
 /// A text of the file.
 #[derive(Clone, Copy)]
@@ -175,7 +175,6 @@ pub struct Defined<'a> {
 }
 
 /// All that a file says of its parser beside its tables.
-#[derive(Drop)]
 pub struct Parts<'a> {
     /// Code, in the order of the file.
     pub blocks: Vec<Block<'a>>,
@@ -209,6 +208,16 @@ pub struct Parts<'a> {
     pub refused: Vec<Refused<'a>>,
 }
 
+impl Drop for Parts<'_> {
+    // A call in each owner, which keeps their proofs short.
+    fn drop(self) {
+        let_go!(self: Parts {
+            blocks, looks, ends, actions, names, bodies, lines, cares, params, numbers, mentioned,
+            tail, defined, options, refused
+        });
+    }
+}
+
 /// What is known of a symbol of which the file says nothing.
 const PLAIN: Looks<'static> = Looks {
     tag: None,
@@ -219,9 +228,10 @@ const PLAIN: Looks<'static> = Looks {
 impl<'a> Parts<'a> {
     /// Nothing but symbols.
     pub fn new(alloc: Global, symbols: usize) -> Made<Parts<'a>> {
+        let looks = vec![in alloc; PLAIN; symbols]?;
         Ok(Parts {
             blocks: Vec::new(alloc),
-            looks: vec![in alloc; PLAIN; symbols]?,
+            looks,
             ends: Vec::new(alloc),
             actions: Vec::new(alloc),
             names: Vec::new(alloc),

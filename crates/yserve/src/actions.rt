@@ -7,7 +7,9 @@ use serde_json::Value;
 use std::alloc::{AllocError, Global};
 use std::str;
 use yforeign::lexeme::{Kind, Span};
-use yskeleton::{Dialect, Piece, Whose, piece_at};
+use yparts::bodies::Body;
+use yparts::parts::Named;
+use yskeleton::{Dialect, Piece, Whose, meant_in, piece_at};
 
 /// What an action may name.
 const ALL: Dialect = Dialect {
@@ -18,17 +20,16 @@ const ALL: Dialect = Dialect {
 /// The kind of the protocol for a reference.
 const VARIABLE: usize = 6;
 
-/// What an action can name: the left side, a symbol of the body, or an action before it.
-#[derive(Clone, Copy, Drop)]
-struct Element {
-    /// The number of its name; none of an action.
-    name: Option<usize>,
-    /// Where it stands.
-    span: Span,
-    /// The name in brackets that it has in its rule.
-    called: Option<Span>,
-    /// The tag before it, of an action.
-    tag: Option<Span>,
+/// What an action can name: the left side, or itself within a body, and what stands before it.
+#[derive(Drop)]
+struct Values<'a> {
+    /// The names, that of the left side first.
+    names: Vec<Named<'a>>,
+    /// Where each stands, and the tag that an action has before it; within a body the action itself
+    /// is the first, since `$$` means it there.
+    parts: Vec<(Span, Option<Span>)>,
+    /// Whether the action stands within its body.
+    is_inner: bool,
 }
 
 /// A reference, and where it stands.
@@ -40,6 +41,28 @@ pub struct Referred<'a> {
     pub from: usize,
     /// How many bytes stand before what follows it.
     pub to: usize,
+}
+
+impl<'a> Values<'a> {
+    /// The value that a reference means.
+    fn meant(&self, whose: Whose<'_>) -> Option<(Span, Option<Span>)> {
+        let seen = self.names.len().saturating_sub(1);
+        match meant_in(&self.names, (seen, self.is_inner), whose) {
+            Ok(None) => self.parts.first().copied(),
+            Ok(Some(number)) if number > 0 => {
+                let place = usize::try_from(number).ok()?;
+                self.parts.get(place).copied()
+            }
+            _ => None,
+        }
+    }
+
+    /// The name in brackets that a value has, where the action sees it.
+    fn called(&self, place: usize) -> Option<&'a [u8]> {
+        let named = self.names.get(place).copied()?;
+        let is_seen = named.name != named.symbol && !(place == 0 && self.is_inner);
+        if is_seen { Some(named.name) } else { None }
+    }
 }
 
 impl Document {
@@ -80,44 +103,73 @@ impl Document {
         }
     }
 
-    /// What an action that begins at a place can name: its left side, and what stands before it in
-    /// the body.
-    fn elements(&self, alloc: Global, before: usize) -> Result<Vec<Element>, AllocError> {
-        let mut found: Vec<Element> = Vec::new(alloc);
-        let (mut tag, mut head) = (None, 0usize);
+    /// Where the rules of the left side begin that stand around a place, and where its rule ends.
+    fn rule_around(&self, at: usize) -> (usize, usize) {
+        let mut head = 0usize;
         for mention in &self.index.mentions {
-            if mention.named == Use::Left && mention.span.from < before {
+            if mention.named == Use::Left && mention.span.from < at {
                 head = mention.span.from;
             }
         }
+        let rule = self.index.rule_at(at).unwrap_or(usize::MAX);
+        match self.index.rules.get(rule) {
+            Some(rule) => (head, rule.to),
+            None => (head, at),
+        }
+    }
+
+    /// Whether a value follows an action in its rule, which ends at a place.
+    fn is_followed(&self, alloc: Global, action: Span, end: usize) -> Result<bool, AllocError> {
+        let (mut names, mut body) = (Vec::new(alloc), Body::new());
         for lexeme in &self.index.lexemes {
-            let span = lexeme.span;
-            if span.from < head || before <= span.from {
+            let from = lexeme.span.from;
+            if action.from < from && from < end {
+                body.take(&mut names, lexeme.kind, lexeme.text(&self.text))?;
+            }
+        }
+        Ok(!names.is_empty())
+    }
+
+    /// What an action can name: its left side, or itself within a body, and what stands before it.
+    fn values(&self, alloc: Global, action: Span) -> Result<Values<'_>, AllocError> {
+        let (mut names, mut parts) = (Vec::new(alloc), Vec::new(alloc));
+        let (mut body, mut tag) = (Body::new(), None);
+        let (head, end) = self.rule_around(action.from);
+        for lexeme in &self.index.lexemes {
+            let (kind, span) = (lexeme.kind, lexeme.span);
+            if span.from < head || action.from <= span.from {
                 continue;
             }
-            let name = self.body_name(span.from);
-            match lexeme.kind {
-                Kind::Bar => found.truncate(1),
-                Kind::Reference => {
-                    if let Some(last) = found.last_mut() {
-                        last.called = Some(span);
-                    }
-                }
-                kind if kind == Kind::Braced || name.is_some() => {
-                    let called = None;
-                    found.push(Element {
-                        name,
-                        span,
-                        called,
-                        tag,
-                    })?;
-                }
-                _ => {}
+            let text = lexeme.text(&self.text);
+            if kind == Kind::Bar {
+                names.truncate(1);
+                parts.truncate(1);
+                body = Body::new();
             }
-            let is_tag = lexeme.kind == Kind::Tag;
+            if span.from == head {
+                names.push(Named {
+                    name: text,
+                    symbol: text,
+                    place: 0,
+                })?;
+            } else {
+                body.take(&mut names, kind, text)?;
+            }
+            if names.len() > parts.len() {
+                parts.push((span, tag))?;
+            }
+            let is_tag = kind == Kind::Tag;
             tag = if is_tag { Some(span) } else { None };
         }
-        Ok(found)
+        let is_inner = self.is_followed(alloc, action, end)?;
+        if let (Some(left), true) = (parts.first_mut(), is_inner) {
+            *left = (action, tag);
+        }
+        Ok(Values {
+            names,
+            parts,
+            is_inner,
+        })
     }
 
     /// What stands in a part of the file between two brackets.
@@ -127,42 +179,15 @@ impl Document {
         inner.get(1..end).unwrap_or(&[]).trim_ascii()
     }
 
-    /// The element that a reference means.
-    fn meant(&self, elements: &[Element], whose: Whose<'_>) -> Option<Element> {
-        let name = match whose {
-            Whose::Left => return elements.first().copied(),
-            Whose::Symbol(number) => {
-                let number = usize::try_from(number).ok()?;
-                return elements.get(number).copied().filter(|_| number > 0);
-            }
-            Whose::Named(name) => name,
-        };
-        let mut found = None;
-        for element in elements {
-            let called = match (element.called, element.name) {
-                (Some(called), _) => self.within(called),
-                (None, Some(number)) => self.index.name(number),
-                (None, None) => continue,
-            };
-            if called == name {
-                if found.is_some() {
-                    return None;
-                }
-                found = Some(*element);
-            }
-        }
-        found
-    }
-
-    /// An element: its name, and the tag of its value, which a reference can give itself.
-    fn element_text<'a>(
+    /// A value: its name, and its tag, which a reference can give itself.
+    fn value_text<'a>(
         &'a self,
         alloc: Global,
-        element: Element,
+        (span, before): (Span, Option<Span>),
         own: Option<&'a [u8]>,
     ) -> Result<String, AllocError> {
-        let (line, mut tag) = (element.span.line, element.tag);
-        let mut text = match element.name {
+        let (line, mut tag) = (span.line, before);
+        let mut text = match self.body_name(span.from) {
             Some(number) => {
                 tag = self.index.tags.get(&number).copied();
                 String::from_str(
@@ -194,26 +219,26 @@ impl Document {
             Piece::Place(whose) => ("place", whose, None),
             Piece::Text => return Ok(None),
         };
-        let elements = self.elements(alloc, action.from)?;
-        let Some(element) = self.meant(&elements, whose) else {
+        let values = self.values(alloc, action)?;
+        let Some(part) = values.meant(whose) else {
             return Ok(None);
         };
-        let text = self.element_text(alloc, element, own)?;
+        let text = self.value_text(alloc, part, own)?;
         let rule = self.index.rule_at(action.from).unwrap_or(0);
         let from = self.index.rules.get(rule).map_or(0, |rule| rule.from);
         let line = self.position(from).line.saturating_add(1);
         Ok(Some(format!(in alloc; "the {word} of {text}\nin the rule on line {line}\n")?))
     }
 
-    /// A reference to an element that could be written in place of a part of the file.
+    /// A reference to a value that could be written in place of a part of the file.
     fn reference_item(
         &self,
         alloc: Global,
         label: &str,
         part: (usize, usize),
-        element: Element,
+        value: (Span, Option<Span>),
     ) -> Result<Value, AllocError> {
-        let text = self.element_text(alloc, element, None)?;
+        let text = self.value_text(alloc, value, None)?;
         let item = item(alloc, label, VARIABLE)?.with_text("detail", text.as_str())?;
         let edit = self.edit(alloc, part, label)?;
         Ok(item.with("textEdit", edit)?.done())
@@ -239,17 +264,17 @@ impl Document {
             _ => return Ok(Value::Array(items)),
         };
         let from = action.from.saturating_add(before).saturating_sub(1);
-        let elements = self.elements(alloc, action.from)?;
-        for (number, element) in elements.iter().enumerate() {
+        let values = self.values(alloc, action)?;
+        for (number, value) in values.parts.iter().enumerate() {
             let label = match number {
                 0 => format!(in alloc; "{sign}$")?,
                 _ => format!(in alloc; "{sign}{number}")?,
             };
-            items.push(self.reference_item(alloc, label.as_str(), (from, at), *element)?)?;
-            if let Some(called) = element.called {
-                let name = str::from_utf8(self.within(called)).unwrap_or("?");
+            items.push(self.reference_item(alloc, label.as_str(), (from, at), *value)?)?;
+            if let Some(name) = values.called(number) {
+                let name = str::from_utf8(name).unwrap_or("?");
                 let label = format!(in alloc; "{sign}[{name}]")?;
-                items.push(self.reference_item(alloc, label.as_str(), (from, at), *element)?)?;
+                items.push(self.reference_item(alloc, label.as_str(), (from, at), *value)?)?;
             }
         }
         Ok(Value::Array(items))

@@ -6,8 +6,9 @@ use serde_json::Value;
 use std::alloc::{AllocError, Global};
 use std::rt::Files;
 use std::{io, str};
-use ydiagnostics::report::told_of;
+use ydiagnostics::begun::begun_of;
 use yexplain::text::Escaped;
+use yfaults::opening::Opened;
 use yfiles::category::Category;
 use yfiles::diagnostic::{Diagnostic, Diagnostics, Severity};
 use yfiles::place::Spot;
@@ -33,15 +34,22 @@ fn severity_of(severity: Severity) -> usize {
     }
 }
 
-/// The code of what is said, where it has one, and how it is shown.
-fn with_code(alloc: Global, one: &Diagnostic) -> Result<Members, AllocError> {
+/// The code of what is said, where it has one, with the page of codes, and how it is shown.
+fn with_code(alloc: Global, one: &Diagnostic, page: Option<&str>) -> Result<Members, AllocError> {
     let mut tags = Vec::new(alloc);
     if matches!(one.category, Some(Category::Other | Category::Precedence)) {
         tags.push(Value::from(1usize))?;
     }
     let told = Members::new(alloc).with("tags", Value::Array(tags))?;
     match (one.code, one.category) {
-        (Some(code), _) => told.with_text("code", code),
+        (Some(code), _) => {
+            let told = told.with_text("code", code)?;
+            let Some(page) = page else {
+                return Ok(told);
+            };
+            let href = Members::new(alloc).with_text("href", page)?.done();
+            told.with("codeDescription", href)
+        }
         (None, Some(category)) => told.with_text("code", category.name()),
         (None, None) => Ok(told),
     }
@@ -106,7 +114,12 @@ impl Document {
     /// One thing that is said of the file.
     fn told(&self, alloc: Global, one: &Diagnostic) -> Result<Value, AllocError> {
         let (from, to) = self.part_at(one.spot);
-        let told = with_code(alloc, one)?.with("range", self.range(alloc, from, to)?)?;
+        let page = match &self.page {
+            Some(page) => Some(page.as_str()),
+            None => None,
+        };
+        let told = with_code(alloc, one, page)?;
+        let told = told.with("range", self.range(alloc, from, to)?)?;
         let told = told.with("severity", Value::from(severity_of(one.severity)))?;
         let told = told.with("message", Value::from(self.message(alloc, one)?))?;
         let told = told.with("relatedInformation", self.related(alloc, one)?)?;
@@ -131,12 +144,42 @@ impl Document {
         Ok((all, faults))
     }
 
-    /// Looks at the file: what is said of it, which `ydebug conflicts` says of the same bytes. Its
-    /// tables are kept, where it has some.
-    pub fn check<F: Files + AllocGlobal>(&mut self, rt: &F) -> io::Result<Value> {
+    /// Keeps the tables of a text that was read, where it had some.
+    fn keep(&mut self) {
+        if let Some(begun) = self.begun.take() {
+            let opened = begun.into_opened();
+            if opened.is_some() {
+                self.opened = opened;
+            }
+        }
+    }
+
+    /// Reads the file, and gives what is said of it; of one with conflicts only where these stand,
+    /// until they are explained.
+    pub fn begin<F: Files + AllocGlobal>(&mut self, rt: &F) -> io::Result<Value> {
         let alloc = rt.alloc();
+        self.keep();
+        self.is_new = false;
         let bytes = Vec::from_slice(alloc, &self.text)?;
-        let mut told = told_of(rt, &self.uri, bytes)?;
+        let begun = begun_of(rt, &self.uri, bytes)?;
+        let brief = begun.brief(alloc, &self.uri)?;
+        self.begun = Some(begun);
+        if brief.all.is_empty() {
+            return self.explain(alloc);
+        }
+        self.choices = Vec::new(alloc);
+        let (all, faults) = self.said(alloc, &brief)?;
+        self.faults = faults;
+        Ok(Value::Array(all))
+    }
+
+    /// What is said of the file that was read, which `ydebug conflicts` says of the same bytes. Its
+    /// tables are kept, where it has some.
+    pub fn explain(&mut self, alloc: Global) -> io::Result<Value> {
+        let Some(begun) = self.begun.take() else {
+            return Ok(Value::Array(Vec::new(alloc)));
+        };
+        let mut told = begun.explained(alloc, &self.uri)?;
         let (all, faults) = self.said(alloc, &told.told)?;
         self.faults = faults;
         self.choices = match &told.conflicts {
@@ -147,7 +190,15 @@ impl Document {
         if opened.is_some() {
             self.opened = opened;
         }
-        self.is_new = false;
         Ok(Value::Array(all))
+    }
+
+    /// The tables of the last text that had some.
+    pub fn tables(&self) -> Option<&Opened> {
+        let begun = match &self.begun {
+            Some(begun) => begun.opened(),
+            None => None,
+        };
+        begun.or(self.opened.as_ref())
     }
 }

@@ -6,6 +6,7 @@ use crate::wire::{number_at, text_at};
 use serde_json::Value;
 use std::alloc::{AllocError, Global};
 use std::str;
+use ydiagnostics::begun::Begun;
 use yfaults::opening::Opened;
 
 /// What a character of a line counts, in the columns of an editor.
@@ -54,17 +55,26 @@ pub struct Fault {
 
 /// A change of a part of a file.
 #[derive(Drop)]
-pub struct Mend {
-    /// The line at which it is offered, from 0 on.
-    pub line: usize,
-    /// What it does.
-    pub title: String,
+pub struct Edit {
     /// How many bytes stand before the part.
     pub from: usize,
     /// How many bytes stand before what follows it.
     pub to: usize,
     /// What comes in its place.
     pub text: String,
+}
+
+/// Changes of a file that mend something.
+#[derive(Drop)]
+pub struct Mend {
+    /// The line at which it is offered, from 0 on.
+    pub line: usize,
+    /// What it does.
+    pub title: String,
+    /// The changes, in the order of the file.
+    pub edits: Vec<Edit>,
+    /// How many conflicts are left with them, where that is known.
+    pub left: Option<usize>,
 }
 
 /// An open file.
@@ -79,7 +89,9 @@ pub struct Document {
     starts: Vec<usize>,
     /// Where its symbols stand.
     pub index: Index,
-    /// The tables of the last text that had some.
+    /// What was read of the text, where its conflicts aren't explained yet.
+    pub begun: Option<Begun>,
+    /// The tables of the last text before that which had some.
     pub opened: Option<Opened>,
     /// What is said of its faults.
     pub faults: Vec<Fault>,
@@ -89,6 +101,8 @@ pub struct Document {
     pub is_new: bool,
     /// How its columns are counted.
     pub encoding: Encoding,
+    /// The page that says what the codes of faults mean, where the editor knows it.
+    pub page: Option<String>,
 }
 
 impl Drop for Document {
@@ -100,11 +114,13 @@ impl Drop for Document {
             text: _,
             starts: _,
             index: _,
+            begun: _,
             opened: _,
             faults: _,
             choices: _,
             is_new: _,
             encoding: _,
+            page: _,
         } = self;
     }
 }
@@ -163,11 +179,13 @@ impl Document {
             starts: starts_of(alloc, &text)?,
             index: index_of(alloc, &text)?,
             text,
+            begun: None,
             opened: None,
             faults: Vec::new(alloc),
             choices: Vec::new(alloc),
             is_new: true,
             encoding,
+            page: None,
         })
     }
 
@@ -257,10 +275,10 @@ impl Document {
         Ok(Members::new(alloc).with("changes", files.done())?.done())
     }
 
-    /// Makes a change that a message has: of a part, or of all.
-    fn change(&mut self, alloc: Global, change: &Value) -> Result<(), AllocError> {
+    /// The text after a change that a message has, of a part or of all; `None` where it has none.
+    fn text_after(&self, alloc: Global, change: &Value) -> Result<Option<Vec<u8>>, AllocError> {
         let Some(new) = text_at(change, "/text") else {
-            return Ok(());
+            return Ok(None);
         };
         let start = position_at(alloc, change, "/range/start")?;
         let end = position_at(alloc, change, "/range/end")?;
@@ -268,10 +286,23 @@ impl Document {
             (Some(start), Some(end)) => (self.offset(start), self.offset(end)),
             _ => (0, self.text.len()),
         };
-        let mut text = Vec::from_slice(alloc, self.text.get(..from).unwrap_or(&[]))?;
+        let mut text = Vec::new(alloc);
+        if let Some(before) = self.text.get(..from) {
+            text.extend_from_slice(before)?;
+        }
         text.extend_from_slice(new.as_bytes())?;
-        text.extend_from_slice(self.text.get(to.max(from)..).unwrap_or(&[]))?;
-        self.take(alloc, text)
+        if let Some(after) = self.text.get(to.max(from)..) {
+            text.extend_from_slice(after)?;
+        }
+        Ok(Some(text))
+    }
+
+    /// Makes a change that a message has.
+    fn change(&mut self, alloc: Global, change: &Value) -> Result<(), AllocError> {
+        match self.text_after(alloc, change)? {
+            Some(text) => self.take(alloc, text),
+            None => Ok(()),
+        }
     }
 
     /// Makes the changes of a message, one after the other.

@@ -26,7 +26,7 @@ impl Document {
     /// A text, and what a symbol is, by the tables of the last text that had some.
     fn with_symbol(&self, text: Vec<u8>, name: &[u8]) -> io::Result<Vec<u8>> {
         let mut page = Page::new(text, false);
-        if let Some(opened) = &self.opened {
+        if let Some(opened) = self.tables() {
             if let Some(symbol) = grammar_of(&opened.tables).find(name) {
                 put_symbol(&mut page, &opened.tables, &opened.lines, symbol);
             }

@@ -272,6 +272,16 @@ impl Index {
             .map_or(&[], |name| name.as_slice())
     }
 
+    /// Whether a symbol has this name.
+    pub fn has(&self, name: &[u8]) -> bool {
+        for other in &self.names {
+            if other.as_slice() == name {
+                return true;
+            }
+        }
+        false
+    }
+
     /// The mention that a place stands in, or at whose end it stands.
     pub fn at(&self, offset: usize) -> Option<Mention> {
         for mention in &self.mentions {

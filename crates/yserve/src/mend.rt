@@ -1,6 +1,6 @@
 //! Changes of a file that mend something, each tried before it is offered.
 
-use crate::document::{Document, Mend};
+use crate::document::{Document, Edit, Mend};
 use crate::index::{Mention, Use};
 use crate::members::Members;
 use serde_json::Value;
@@ -10,7 +10,7 @@ use ydiagnostics::causes::CauseSheet;
 use ydiagnostics::hints::EditSheet;
 use yfiles::diagnostic::Diagnostics;
 use yforeign::lexeme::Kind;
-use yfrontend::import::{Dialect, open_grammar};
+use yfrontend::import::{Dialect, Foreign, Read, open_grammar};
 use yfrontend::notes::Source;
 
 /// What a change does that settles a conflict.
@@ -29,6 +29,23 @@ fn title_of(alloc: Global, edit: &EditSheet) -> Result<String, AllocError> {
     Ok(title)
 }
 
+/// A change of one part of a file, of which nothing more is known.
+pub fn mend_of(
+    alloc: Global,
+    (line, title): (usize, String),
+    (from, to): (usize, usize),
+    text: String,
+) -> Result<Mend, AllocError> {
+    let mut edits = Vec::new(alloc);
+    edits.push(Edit { from, to, text })?;
+    Ok(Mend {
+        line,
+        title,
+        edits,
+        left: None,
+    })
+}
+
 impl Document {
     /// Whether a symbol of a body is no nonterminal and no declared token.
     fn is_unknown(&self, mention: Mention) -> bool {
@@ -40,7 +57,7 @@ impl Document {
     }
 
     /// Where declarations can be added: before the first mark.
-    fn mark(&self) -> usize {
+    pub fn mark(&self) -> usize {
         let mut lexemes = self.index.lexemes.iter();
         match lexemes.find(|lexeme| lexeme.kind == Kind::Mark) {
             Some(mark) => mark.span.from,
@@ -58,29 +75,22 @@ impl Document {
         let line = self.position(at).line;
         if self.is_unknown(mention) {
             let mark = self.mark();
-            return Ok(Some(Mend {
-                line,
-                title: format!(in alloc; "declare {name} as a token")?,
-                from: mark,
-                to: mark,
-                text: format!(in alloc; "%token {name}\n")?,
-            }));
+            let title = format!(in alloc; "declare {name} as a token")?;
+            let text = format!(in alloc; "%token {name}\n")?;
+            return Ok(Some(mend_of(alloc, (line, title), (mark, mark), text)?));
         }
         let mut mentions = self.index.mentions.iter();
         let is_used = mentions.any(|it| it.name == mention.name && it.named != Use::Token);
         if mention.named == Use::Token && !is_used {
-            return Ok(Some(Mend {
-                line,
-                title: format!(in alloc; "remove the unused token {name}")?,
-                from: mention.span.from,
-                to: mention.span.to,
-                text: String::new(alloc),
-            }));
+            let title = format!(in alloc; "remove the unused token {name}")?;
+            let part = (mention.span.from, mention.span.to);
+            return Ok(Some(mend_of(alloc, (line, title), part, String::new(alloc))?));
         }
         Ok(None)
     }
 
     /// The changes that settle the conflicts of a cause otherwise: at the first rule that loses.
+    /// They are lines of precedence, or the copy of a nonterminal.
     fn add_choices(
         &self,
         alloc: Global,
@@ -96,13 +106,14 @@ impl Document {
             for edit in &hint.edits {
                 let (start, _) = self.line(edit.line.saturating_sub(1));
                 let from = start.saturating_add(edit.column.saturating_sub(1));
-                choices.push(Mend {
-                    line: line.saturating_sub(1),
-                    title: title_of(alloc, edit)?,
-                    from,
-                    to: from,
-                    text: String::from_str(alloc, edit.text.as_str())?,
-                })?;
+                let said = (line.saturating_sub(1), title_of(alloc, edit)?);
+                let text = String::from_str(alloc, edit.text.as_str())?;
+                choices.push(mend_of(alloc, said, (from, from), text)?)?;
+            }
+        }
+        if let Some(split) = &cause.split {
+            if let Some(mend) = self.split_mend(alloc, split, line.saturating_sub(1))? {
+                choices.push(mend)?;
             }
         }
         Ok(())
@@ -121,31 +132,54 @@ impl Document {
         Ok(choices)
     }
 
-    /// Whether a file is a grammar once it is changed so.
-    fn is_mended(&self, alloc: Global, mend: &Mend) -> io::Result<bool> {
-        let mut text = Vec::from_slice(alloc, self.text.get(..mend.from).unwrap_or(&[]))?;
-        text.extend_from_slice(mend.text.as_bytes())?;
-        text.extend_from_slice(self.text.get(mend.to..).unwrap_or(&[]))?;
+    /// The file once it is changed so.
+    fn changed(&self, alloc: Global, edits: &[Edit]) -> Result<Vec<u8>, AllocError> {
+        let (mut text, mut at) = (Vec::new(alloc), 0usize);
+        for edit in edits {
+            text.extend_from_slice(self.text.get(at..edit.from).unwrap_or(&[]))?;
+            text.extend_from_slice(edit.text.as_bytes())?;
+            at = edit.to;
+        }
+        text.extend_from_slice(self.text.get(at..).unwrap_or(&[]))?;
+        Ok(text)
+    }
+
+    /// How many conflicts a file has once it is changed so, where it is a grammar then.
+    fn conflicts_with(&self, alloc: Global, mend: &Mend) -> io::Result<Option<usize>> {
+        let text = self.changed(alloc, &mend.edits)?;
         let source = Source {
             path: &self.uri,
             bytes: &text,
         };
         let mut told = Diagnostics::new(alloc);
-        Ok(open_grammar(alloc, &mut told, source, Dialect::Seen)?.is_ok())
+        let opened = match open_grammar(alloc, &mut told, source, Dialect::Seen)? {
+            Ok(Read::Plain(opened)) => opened,
+            Ok(Read::Foreign(foreign)) => {
+                let Foreign { opened, .. } = foreign;
+                opened
+            }
+            Err(_) => return Ok(None),
+        };
+        let counts = opened.tables.conflicts();
+        let count = counts.shift_reduce.saturating_add(counts.reduce_reduce);
+        Ok(Some(count as usize))
     }
 
     /// A change as messages have it.
     fn action(&self, alloc: Global, mend: &Mend) -> Result<Value, AllocError> {
         let mut edits = Vec::new(alloc);
-        edits.push(self.edit(alloc, (mend.from, mend.to), mend.text.as_str())?)?;
+        for edit in &mend.edits {
+            edits.push(self.edit(alloc, (edit.from, edit.to), edit.text.as_str())?)?;
+        }
         let action = Members::new(alloc).with("edit", self.edits(alloc, edits)?)?;
         let action = action.with_text("title", mend.title.as_str())?;
         Ok(action.with_text("kind", "quickfix")?.done())
     }
 
-    /// Adds a change, where the file is a grammar with it.
+    /// Adds a change, where the file is a grammar with it, which has as many conflicts as are told.
     fn add_mend(&self, alloc: Global, mend: &Mend, found: &mut Vec<Value>) -> io::Result<()> {
-        if self.is_mended(alloc, mend)? {
+        let count = self.conflicts_with(alloc, mend)?;
+        if count.is_some() && (mend.left.is_none() || mend.left == count) {
             let action = self.action(alloc, mend)?;
             found.push(action).map_err(AllocError::from)?;
         }
@@ -156,6 +190,9 @@ impl Document {
     pub fn mends(&self, alloc: Global, at: usize) -> io::Result<Value> {
         let (mut found, line) = (Vec::new(alloc), self.position(at).line);
         if let Some(mend) = self.mend_at(alloc, at)? {
+            self.add_mend(alloc, &mend, &mut found)?;
+        }
+        if let Some(mend) = self.empty_mend(alloc, at)? {
             self.add_mend(alloc, &mend, &mut found)?;
         }
         for choice in &self.choices {

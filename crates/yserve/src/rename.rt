@@ -42,12 +42,7 @@ impl Document {
         let Some(mention) = self.renamed(at) else {
             return Ok(Err(Wrong::NoName));
         };
-        let taken = self
-            .index
-            .names
-            .iter()
-            .any(|name| name.as_slice() == new.as_bytes());
-        if taken || !is_name(new.as_bytes()) {
+        if self.index.has(new.as_bytes()) || !is_name(new.as_bytes()) {
             return Ok(Err(Wrong::NoName));
         }
         let mut edits = Vec::new(alloc);

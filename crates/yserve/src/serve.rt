@@ -1,15 +1,15 @@
 //! The loop over messages.
 
+use crate::ahead::needless;
 use crate::document::Document;
 use crate::frame::{Came, next_message, send};
 use crate::members::Members;
 use crate::server::{Server, Stage};
-use crate::wire::{Wrong, answer, notice, refusal, text_at};
+use crate::wire::{Wrong, answer, message_in, notice, refusal, text_at};
 use serde_json::Value;
 use std::alloc::{AllocError, Global};
 use std::io::{self, BufReader, Read, Write};
 use std::rt::Files;
-use std::str;
 
 /// Whether the server goes on.
 #[derive(Clone, Copy, PartialEq, Eq)]
@@ -33,27 +33,79 @@ fn publish<W: Write>(
     send(alloc, out, &told)
 }
 
-/// Looks at each file that was changed, and tells what is said of it.
+/// How far files are looked at.
+#[derive(Clone, Copy, PartialEq, Eq)]
+enum Depth {
+    /// Not.
+    Nothing,
+    /// Up to their tables, and where their conflicts stand.
+    Tables,
+    /// Up to what explains their conflicts.
+    Whole,
+}
+
+/// What has to be known of files to answer a request.
+fn depth_for(method: &str) -> Depth {
+    match method {
+        "textDocument/hover" => Depth::Tables,
+        "textDocument/codeAction" => Depth::Whole,
+        _ => Depth::Nothing,
+    }
+}
+
+/// Looks at each file that was changed, and tells what is said of it: of all files where their
+/// conflicts stand, and then of each all, which takes longer.
 fn check_all<F: Files + AllocGlobal, W: Write>(
     rt: &F,
     server: &mut Server,
     out: &mut W,
+    depth: Depth,
 ) -> io::Result<()> {
+    let alloc = rt.alloc();
     for document in server.documents.iter_mut() {
-        if document.is_new {
-            let all = document.check(rt)?;
-            publish(rt.alloc(), out, document, all)?;
+        if document.is_new && depth != Depth::Nothing {
+            let all = document.begin(rt)?;
+            publish(alloc, out, document, all)?;
+        }
+    }
+    for document in server.documents.iter_mut() {
+        if document.begun.is_some() && depth == Depth::Whole {
+            let all = document.explain(alloc)?;
+            publish(alloc, out, document, all)?;
         }
     }
     Ok(())
 }
 
-/// Answers a message, or takes in what it tells.
+/// Answers a request, unless what comes after it makes that needless.
+fn reply<F: Files + AllocGlobal, W: Write>(
+    rt: &F,
+    server: &mut Server,
+    out: &mut W,
+    (method, id): (&str, &Value),
+    (message, ahead): (&Value, &[u8]),
+) -> io::Result<()> {
+    let (alloc, depth) = (rt.alloc(), depth_for(method));
+    let is_of_file = depth == Depth::Whole;
+    let reply = match needless(alloc, ahead, message, is_of_file)? {
+        Some(wrong) => refusal(alloc, id, wrong)?,
+        None => {
+            check_all(rt, server, out, depth)?;
+            match server.ask(method, message)? {
+                Ok(result) => answer(alloc, id, result)?,
+                Err(wrong) => refusal(alloc, id, wrong)?,
+            }
+        }
+    };
+    send(alloc, out, &reply)
+}
+
+/// Answers a message, or takes in what it tells; these bytes of the input were read after it.
 fn obey<F: Files + AllocGlobal, W: Write>(
     rt: &F,
     server: &mut Server,
     out: &mut W,
-    message: &Value,
+    (message, ahead): (&Value, &[u8]),
 ) -> io::Result<Flow> {
     let alloc = rt.alloc();
     let Some(method) = text_at(message, "/method") else {
@@ -64,17 +116,7 @@ fn obey<F: Files + AllocGlobal, W: Write>(
         return Ok(Flow::GoesOn);
     };
     match message.get("id") {
-        Some(id) => {
-            // what a symbol is, and how a conflict is settled, is asked of the tables
-            if method == "textDocument/hover" || method == "textDocument/codeAction" {
-                check_all(rt, server, out)?;
-            }
-            let reply = match server.ask(method, message)? {
-                Ok(result) => answer(alloc, id, result)?,
-                Err(wrong) => refusal(alloc, id, wrong)?,
-            };
-            send(alloc, out, &reply)?;
-        }
+        Some(id) => reply(rt, server, out, (method, id), (message, ahead))?,
         None if method == "exit" => return Ok(Flow::Ends),
         None if server.stage == Stage::Running => {
             if let Some(closed) = server.take(method, message)? {
@@ -84,12 +126,6 @@ fn obey<F: Files + AllocGlobal, W: Write>(
         None => {}
     }
     Ok(Flow::GoesOn)
-}
-
-/// A message, where it is JSON.
-fn message_in(alloc: Global, bytes: &[u8]) -> Option<Value> {
-    let text = str::from_utf8(bytes).ok()?;
-    Value::from_str(alloc, text).ok()
 }
 
 /// Serves an editor, and gives the exit status: 0 after `shutdown` and `exit`, else 1.
@@ -103,7 +139,7 @@ pub fn run_serve<F: Files + AllocGlobal, R: Read + Drop, W: Write>(
     for _ in 0..usize::MAX {
         // what has come in is taken in before files are looked at
         if reader.buffer().is_empty() {
-            check_all(rt, &mut server, out)?;
+            check_all(rt, &mut server, out, Depth::Whole)?;
         }
         let message = match next_message(alloc, &mut reader)? {
             Came::End => break,
@@ -111,7 +147,7 @@ pub fn run_serve<F: Files + AllocGlobal, R: Read + Drop, W: Write>(
             Came::Message(bytes) => message_in(alloc, &bytes),
         };
         let flow = match &message {
-            Some(message) => obey(rt, &mut server, out, message)?,
+            Some(message) => obey(rt, &mut server, out, (message, reader.buffer()))?,
             None => {
                 send(alloc, out, &refusal(alloc, &Value::Null, Wrong::NoJson)?)?;
                 Flow::GoesOn

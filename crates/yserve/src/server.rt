@@ -4,7 +4,7 @@ use crate::capabilities::capabilities_of;
 use crate::document::{Document, Encoding, position_at};
 use crate::members::Members;
 use crate::places::{definition, highlights, references};
-use crate::wire::{Wrong, number_at, text_at};
+use crate::wire::{Wrong, is_uri, number_at, text_at};
 use serde_json::Value;
 use std::alloc::{AllocError, Global};
 use std::io;
@@ -29,6 +29,8 @@ pub struct Server {
     pub documents: Vec<Document>,
     /// How columns are counted.
     encoding: Encoding,
+    /// The page that says what the codes of faults mean, where the editor names it.
+    page: Option<String>,
     /// How far the talk has come.
     pub stage: Stage,
 }
@@ -76,6 +78,7 @@ impl Server {
             alloc,
             documents: Vec::new(alloc),
             encoding: Encoding::Units,
+            page: None,
             stage: Stage::Waiting,
         }
     }
@@ -100,6 +103,10 @@ impl Server {
                 }
             }
         }
+        let page = text_at(message, "/params/initializationOptions/faults").unwrap_or("");
+        if is_uri(page) {
+            self.page = Some(String::from_str(self.alloc, page)?);
+        }
         self.stage = Stage::Running;
         capabilities_of(self.alloc, self.encoding.name())
     }
@@ -114,6 +121,9 @@ impl Server {
         };
         let mut document = Document::new(self.alloc, uri, text, self.encoding)?;
         document.version = number_at(message, "/params/textDocument/version");
+        if let Some(page) = &self.page {
+            document.page = Some(String::from_str(self.alloc, page)?);
+        }
         match self.place(message) {
             Some(place) => {
                 if let Some(old) = self.documents.get_mut(place) {

@@ -3,6 +3,7 @@
 use crate::members::Members;
 use serde_json::Value;
 use std::alloc::{AllocError, Global};
+use std::str;
 
 /// What is wrong with a request, by the number that the protocol has for it.
 #[derive(Clone, Copy, Drop)]
@@ -19,6 +20,10 @@ pub enum Wrong {
     NotRunning,
     /// The symbol can't be renamed so.
     NoName,
+    /// The editor takes the request back.
+    Cancelled,
+    /// The file was changed since.
+    Changed,
 }
 
 impl Wrong {
@@ -34,6 +39,8 @@ impl Wrong {
                 -32_803,
                 "that is no name of a symbol, or another symbol has it",
             ),
+            Wrong::Cancelled => (-32_800, "the request was cancelled"),
+            Wrong::Changed => (-32_801, "the file was changed since"),
         }
     }
 }
@@ -46,6 +53,33 @@ pub fn text_at<'a>(message: &'a Value, path: &str) -> Option<&'a str> {
 /// The number that stands at a path of a message.
 pub fn number_at(message: &Value, path: &str) -> Option<usize> {
     usize::try_from(message.pointer(path)?.as_u64()?).ok()
+}
+
+/// A message, where it is JSON.
+pub fn message_in(alloc: Global, bytes: &[u8]) -> Option<Value> {
+    let text = str::from_utf8(bytes).ok()?;
+    Value::from_str(alloc, text).ok()
+}
+
+/// Whether a text is a URI: a scheme, a colon, and signs that can stand in one.
+pub fn is_uri(text: &str) -> bool {
+    let mut in_scheme = true;
+    for (place, byte) in text.as_bytes().iter().enumerate() {
+        let is_first = place == 0;
+        let fits = match *byte {
+            b'a'..=b'z' | b'A'..=b'Z' => true,
+            b':' if in_scheme => !is_first,
+            b'0'..=b'9' | b'+' | b'-' | b'.' if in_scheme => !is_first,
+            _ if in_scheme => false,
+            b'"' | b'<' | b'>' | b'\\' | b'^' | b'`' | b'{' | b'|' | b'}' => false,
+            other => other.is_ascii_graphic(),
+        };
+        if !fits {
+            return false;
+        }
+        in_scheme = in_scheme && *byte != b':';
+    }
+    !in_scheme
 }
 
 /// The answer to a request.

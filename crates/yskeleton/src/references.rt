@@ -172,3 +172,28 @@ pub fn piece_at(bytes: &[u8], dialect: Dialect) -> Option<(Piece<'_>, &[u8], &[u
     let (front, after) = bytes.split_at(length.min(bytes.len()));
     Some((piece, front, after))
 }
+
+/// Whether code names a value or a place by this name.
+pub fn names_one(code: &[u8], name: &[u8]) -> bool {
+    let all = Dialect {
+        names: true,
+        places: true,
+    };
+    let mut rest = code;
+    // each piece has a byte at least
+    for _ in code {
+        let Some((piece, _, after)) = piece_at(rest, all) else {
+            break;
+        };
+        rest = after;
+        let whose = match piece {
+            Piece::Value(value) => value.whose,
+            Piece::Place(whose) => whose,
+            Piece::Text => continue,
+        };
+        if whose == Whose::Named(name) {
+            return true;
+        }
+    }
+    false
+}

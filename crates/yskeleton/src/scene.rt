@@ -133,32 +133,42 @@ impl<'a> Skeleton<'a> {
     }
 }
 
+/// Who is meant, by a number where it is not the left side, with the names of a body: of so many
+/// values that code sees before it. The left side has no name within the body.
+pub fn meant_in(
+    names: &[Named<'_>],
+    (seen, is_inner): (usize, bool),
+    whose: Whose<'_>,
+) -> Result<Option<i64>, Misuse> {
+    let name = match whose {
+        Whose::Left => return Ok(None),
+        Whose::Symbol(number) => return Ok(Some(number)),
+        Whose::Named(name) => name,
+    };
+    let mut found = None;
+    for named in names {
+        let is_seen = match named.place {
+            0 => !is_inner,
+            place => place <= seen,
+        };
+        if named.name == name && is_seen {
+            if found.is_some() {
+                return Err(Misuse::Ambiguous);
+            }
+            found = Some(named.place);
+        }
+    }
+    match found {
+        None => Err(Misuse::Unknown),
+        Some(0) => Ok(None),
+        Some(place) => Ok(Some(i64::try_from(place).unwrap_or(i64::MAX))),
+    }
+}
+
 impl<'a> Scene<'a> {
     /// Who is meant, by a number where it is not the left side.
     fn meant(&self, whose: Whose<'_>) -> Result<Option<i64>, Misuse> {
-        let name = match whose {
-            Whose::Left => return Ok(None),
-            Whose::Symbol(number) => return Ok(Some(number)),
-            Whose::Named(name) => name,
-        };
-        let mut found = None;
-        for named in self.names {
-            let is_seen = match named.place {
-                0 => !self.is_inner,
-                place => place <= self.before.len(),
-            };
-            if named.name == name && is_seen {
-                if found.is_some() {
-                    return Err(Misuse::Ambiguous);
-                }
-                found = Some(named.place);
-            }
-        }
-        match found {
-            None => Err(Misuse::Unknown),
-            Some(0) => Ok(None),
-            Some(place) => Ok(Some(i64::try_from(place).unwrap_or(i64::MAX))),
-        }
+        meant_in(self.names, (self.before.len(), self.is_inner), whose)
     }
 
     /// The symbol of a number in the body, counted from 1.
