@@ -54,6 +54,9 @@ SOME_RULE = r"[A-Za-z_.][\w.]*(?:\[\w+\])?\s*:|\|"
 FOREIGN = re.compile(r"foreign\.y:(\d+)(?::(\d+))?: \w+: (.*?)(?: \[-W[a-z-]+\])?")
 NOTE = re.compile(r"grammar\.y:(\d+):(\d+): note: (.*)")
 RIVAL = re.compile(r"(?:not )?taken: (?:the shift in )?rule (\d+)  (.*)")
+COPY = re.compile(
+    r"(?m)^  With a copy of (.+), which has the same rules, in rule (\d+) \(line (\d+)\) (\d+) of (\d+) "
+)
 # In the text of a grammar that was drawn: a left side, what a body begins with, a listed token.
 LEFT, FIRST, LISTED = (
     re.compile(it) for it in (r"(?m)^([a-z]+)(?= :)", r"([:|] [A-Za-z]+)", r"\b([A-Z]+)\b")
@@ -296,8 +299,16 @@ def wrong_conflicts(source, text, found, diagnostics):
     wrong = wrong_counts(text, found) or wrong_columns(source, kinds)
     wrong = wrong or wrong_causes(found, diagnostics) or wrong_spots(source, diagnostics)
     wrong = wrong or wrong_warnings(text, diagnostics) or wrong_places(parts, kinds, text)
-    wrong = wrong or wrong_offers(found["causes"])
+    wrong = wrong or wrong_offers(found["causes"]) or wrong_splits(text, found["causes"])
     return wrong or next(filter(None, (wrong_block(it, kinds) for it in parts)), None)
+
+
+def wrong_splits(text, causes):
+    """What is wrong with the copies that split merged states: the report tells the same ones."""
+    told = [(it[1], *map(int, it.groups()[1:])) for it in COPY.finditer(text)]
+    splits = (cause["split"] for cause in causes if cause["split"])
+    found = [tuple(map(it.get, ("symbol", "rule", "line", "left", "all"))) for it in splits]
+    return None if found == told else f"copies {found}, told {told}"
 
 
 def differences(source, text, document, lines):

@@ -58,7 +58,7 @@ NAMED = re.compile(
     r"|no token of the grammar has this name"
     r"|an input has tokens alone, and neither error nor \$end"
     r"|after --upper the words stand in small letters"
-    r"|no directive of a SPEC; there are %skip, %keywords and %none)"
+    r"|no directive of a SPEC; there are %skip, %keywords and %none|this is a grammar, no SPEC)"
     r"|text:\d+:\d+: error: (no line of the SPEC matches here: .+|unexpected (\S+|\".+\"|end of (input|line)|(\S+ )?'.+')[,;] .+)"
     r"|text: (accepted after \d+ steps|error: undecided after 1,000,000 steps)"
 )

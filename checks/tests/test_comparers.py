@@ -197,6 +197,7 @@ class Documents(Planted):
         pairs += [('"tokens":["C","A"]', '"tokens":["C"]'), ('"rules":[9]', '"rules":[10]')]
         pairs += [('"both":false', '"both":true'), ('"version":1', '"version":2')]
         pairs += [("is useless in", "is idle in"), ('"form":"conflicts"', '"form":"check"')]
+        pairs += [('"left":2,"all":3', '"left":1,"all":3'), ('"split":{"symbol":"x"', '"split":{"symbol":"y"')]
         self.each_caught(self.look, self.document, *changed(self.document, *pairs))
 
     def test_lines(self):

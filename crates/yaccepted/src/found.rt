@@ -10,7 +10,7 @@ use yexplain::reads::{
     Made, body_of, candidates_of, conflicts_of, grammar_of, items_of, name_of, next_of, shift_of,
 };
 use yfiles::category::Category;
-use ysymbols::Sym;
+use ysymbols::{Sym, let_go};
 use ytables::{Class, Tables};
 
 /// The most conflicts that are told apart.
@@ -25,10 +25,16 @@ struct Pair {
 }
 
 /// The pairs of items that are rivals, in the order of their states.
-#[derive(Drop)]
 struct Pairs {
     /// Each with the first state that has it.
     all: IndexMap<Pair, usize>,
+}
+
+impl Drop for Pairs {
+    // A call in each owner, which keeps their proofs short.
+    fn drop(self) {
+        let_go!(self: Pairs { all });
+    }
 }
 
 impl Pairs {

@@ -4,7 +4,7 @@ use crate::given::Given;
 use std::alloc::Global;
 use std::io::{self, ErrorKind, Read, Write};
 use std::rt::Files;
-use ydiagnostics::checking::{self, add_further, run_checking};
+use ydiagnostics::checking::{self, run_checking};
 use ydiagnostics::format::Format;
 use ydiagnostics::late::Defaults;
 use ydiagnostics::messaged::Messaged;
@@ -106,7 +106,7 @@ impl<F: Files + AllocGlobal, R: Read, E: Write> Given<'_, F, R, E> {
             status = ended.max(status);
             if let (true, Some(input)) = (asked.inputs.all, rejected) {
                 let mut told = Diagnostics::new(alloc);
-                messaged = add_further(alloc, messaged, &mut told, (path, None), &input)?;
+                messaged = messaged.add_further(alloc, &mut told, (path, None), &input)?;
                 told.put(out, "ydebug")?;
             }
         }

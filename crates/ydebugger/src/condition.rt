@@ -176,18 +176,26 @@ impl Condition {
     /// Why the run stopped, or what never came.
     pub fn put<W: Write>(self, page: &mut Page<W>, session: &Session) {
         let grammar = grammar_of(session.tables());
-        let _ = match self {
-            Condition::Shift(token) => write!(page, "shift of {}", name_of(grammar, token)),
-            Condition::ReduceTo(left) => write!(page, "reduction to {}", name_of(grammar, left)),
-            Condition::Reduce(rule) => write!(page, "reduction by rule {rule}"),
-            Condition::Error => write!(page, "error"),
-            Condition::Conflict => write!(page, "conflict"),
-            Condition::State(state) => write!(page, "state {state}"),
-            Condition::Token(place) => write!(page, "token {place}"),
-            Condition::Depth(depth) => write!(page, "depth {depth}"),
-            Condition::Accept => write!(page, "acceptance"),
-            Condition::AnyShift => write!(page, "shift of a token"),
-            Condition::Top(_) => write!(page, "reduction of the entry on top"),
+        let (words, number) = match self {
+            Condition::Shift(_) => ("shift of ", None),
+            Condition::ReduceTo(_) => ("reduction to ", None),
+            Condition::Reduce(rule) => ("reduction by rule ", Some(rule)),
+            Condition::Error => ("error", None),
+            Condition::Conflict => ("conflict", None),
+            Condition::State(state) => ("state ", Some(state)),
+            Condition::Token(place) => ("token ", Some(place)),
+            Condition::Depth(depth) => ("depth ", Some(depth)),
+            Condition::Accept => ("acceptance", None),
+            Condition::AnyShift => ("shift of a token", None),
+            Condition::Top(_) => ("reduction of the entry on top", None),
         };
+        page.put(words);
+        match (self, number) {
+            (Condition::Shift(symbol) | Condition::ReduceTo(symbol), _) => {
+                page.put(name_of(grammar, symbol));
+            }
+            (_, Some(number)) => page.number(number),
+            _ => {}
+        }
     }
 }

@@ -1,11 +1,12 @@
 //! Causes of conflicts, as data: the conflicts of one state with the same rules that lose, with all
 //! their rivals, with sentences for these, and with what settles them otherwise.
 
+use crate::events::Events;
 use crate::hints::HintSheet;
 use crate::kinds::{named, names_of};
-use crate::mends::MendSheet;
+use crate::mends::{MendSheet, SplitSheet};
 use crate::scene::Scene;
-use serde::Serialize;
+use crate::sheet::place_of;
 use std::alloc::Global;
 use yambiguity::answer::{Answer, Sentence};
 use yambiguity::choice::Choice;
@@ -13,8 +14,10 @@ use yexplain::reads::{Made, body_of, grammar_of, next_of};
 use yexplain::text::{ItemText, RuleText};
 use ylalr::Item;
 use ymends::mending::Mended;
+use yreports::ambiguity::are_twins;
 use yreports::blocks::{Block, category_of};
 use yreports::offer::Offer;
+use yreports::splitting::Split;
 use ysearch::groups::{Kind, MOST_RIVALS};
 use ysymbols::let_go;
 
@@ -22,7 +25,7 @@ use ysymbols::let_go;
 const MOST_NODES: usize = 100;
 
 /// A rival: a shift in an item, or a rule.
-#[derive(Drop, Serialize)]
+#[derive(Drop)]
 pub struct RivalSheet {
     /// `shift` or `reduce`.
     pub action: &'static str,
@@ -38,8 +41,23 @@ pub struct RivalSheet {
     pub text: String,
 }
 
+impl RivalSheet {
+    /// Adds it to a document.
+    fn add_to(&self, events: &mut Events) {
+        events.begin();
+        events.word("action", self.action);
+        events.flag("taken", self.taken);
+        events.number("rule", self.rule);
+        events.number("dot", self.dot);
+        events.number_if("line", self.line);
+        events.number_if("column", self.column);
+        events.text("text", &self.text);
+        events.end();
+    }
+}
+
 /// A node of a tree.
-#[derive(Drop, Serialize)]
+#[derive(Drop)]
 pub struct NodeSheet {
     /// How many nodes are above it.
     level: usize,
@@ -48,8 +66,18 @@ pub struct NodeSheet {
     rule: Option<usize>,
 }
 
+impl NodeSheet {
+    /// Adds it to a document.
+    fn add_to(&self, events: &mut Events) {
+        events.begin();
+        events.number("level", self.level);
+        events.text("symbol", &self.symbol);
+        events.number_if("rule", self.rule);
+        events.end();
+    }
+}
+
 /// A sentence that a rival derives.
-#[derive(Serialize)]
 pub struct SentenceSheet {
     /// `shift` or `reduce`, and by which rule.
     pub action: &'static str,
@@ -71,8 +99,30 @@ impl Drop for SentenceSheet {
     }
 }
 
+impl SentenceSheet {
+    /// Adds it to a document.
+    fn add_to(&self, events: &mut Events) {
+        events.begin();
+        events.word("action", self.action);
+        events.number_if("rule", self.rule);
+        events.texts("tokens", &self.tokens);
+        events.number("dot", self.dot);
+        events.number_if("refused", self.refused);
+        match &self.tree {
+            Some(nodes) => {
+                events.begin_list("tree");
+                for node in nodes {
+                    node.add_to(events);
+                }
+                events.end_list();
+            }
+            None => events.nothing("tree"),
+        }
+        events.end();
+    }
+}
+
 /// A cause.
-#[derive(Serialize)]
 pub struct CauseSheet {
     /// `shift/reduce` or `reduce/reduce`, and its category.
     pub kind: &'static str,
@@ -93,6 +143,8 @@ pub struct CauseSheet {
     offer: &'static str,
     /// What is known beside the rivals: an idiom, a change that was tried, the second token.
     mend: Option<MendSheet>,
+    /// A copy of a nonterminal that was tried.
+    pub split: Option<SplitSheet>,
     /// How to choose otherwise.
     pub hints: Vec<HintSheet>,
 }
@@ -102,8 +154,53 @@ impl Drop for CauseSheet {
     fn drop(self) {
         let_go!(self: CauseSheet {
             kind, category, kinds, states, tokens, loses, rivals, ambiguous, sentences, offer,
-            mend, hints
+            mend, split, hints
         });
+    }
+}
+
+impl CauseSheet {
+    /// Adds it to a document.
+    pub fn add_to(&self, events: &mut Events) {
+        events.begin();
+        events.word("kind", self.kind);
+        events.word("category", self.category);
+        events.numbers("kinds", &self.kinds);
+        events.numbers("states", &self.states);
+        events.texts("tokens", &self.tokens);
+        events.numbers("loses", &self.loses);
+        events.begin_list("rivals");
+        for rival in &self.rivals {
+            rival.add_to(events);
+        }
+        events.end_list();
+        events.flag("ambiguous", self.ambiguous);
+        events.begin_list("sentences");
+        for sentence in &self.sentences {
+            sentence.add_to(events);
+        }
+        events.end_list();
+        events.word("offer", self.offer);
+        match &self.mend {
+            Some(mend) => {
+                events.key("mend");
+                mend.add_to(events);
+            }
+            None => events.nothing("mend"),
+        }
+        match &self.split {
+            Some(split) => {
+                events.key("split");
+                split.add_to(events);
+            }
+            None => events.nothing("split"),
+        }
+        events.begin_list("hints");
+        for hint in &self.hints {
+            hint.add_to(events);
+        }
+        events.end_list();
+        events.end();
     }
 }
 
@@ -126,6 +223,7 @@ impl CauseSheet {
             sentences: Vec::new(alloc),
             offer: offer.name(),
             mend: None,
+            split: None,
             hints: Vec::new(alloc),
         }
     }
@@ -134,20 +232,21 @@ impl CauseSheet {
 impl Scene<'_> {
     /// A rival of an item, or of a rule where the dot is at its end.
     fn rival(self, action: &'static str, taken: bool, item: Item) -> Made<RivalSheet> {
-        let (grammar, spot) = (grammar_of(self.tables), self.shown.lines.spot(item.rule));
+        let (grammar, alloc) = (grammar_of(self.tables), self.alloc);
+        let (line, column) = place_of(self.shown.lines.spot(item.rule));
         let (rule, whole) = (item.rule, RuleText(grammar, item.rule));
         let item_text = ItemText(grammar, item);
         let text = match action {
-            "shift" => format!(in self.alloc; "{item_text}")?,
-            _ => format!(in self.alloc; "{whole}")?,
+            "shift" => format!(in alloc; "{item_text}")?,
+            _ => format!(in alloc; "{whole}")?,
         };
         Ok(RivalSheet {
             action,
             taken,
             rule,
             dot: item.dot,
-            line: spot.map(|spot| spot.line),
-            column: spot.and_then(|spot| spot.column),
+            line,
+            column,
             text,
         })
     }
@@ -162,8 +261,9 @@ impl Scene<'_> {
             let next = next_of(grammar, *item);
             let mut is_meant = false;
             for class in &block.classes {
-                let mut entries = class.entries.iter();
-                is_meant = is_meant || entries.any(|entry| next == Some(entry.kind.token));
+                for entry in &class.entries {
+                    is_meant = is_meant || next == Some(entry.kind.token);
+                }
             }
             if kind.shift && is_meant && rivals.len() < MOST_RIVALS {
                 rivals.push(self.rival("shift", true, *item)?)?;
@@ -189,18 +289,17 @@ impl Scene<'_> {
             let Some(node) = trees.node(tree) else {
                 break;
             };
+            let symbol = named(self.alloc, grammar, node.symbol)?;
+            let rule = if node.stands { None } else { node.rule };
             nodes.push(NodeSheet {
                 level,
-                symbol: named(self.alloc, grammar, node.symbol)?,
-                rule: node.rule.filter(|_| !node.stands),
+                symbol,
+                rule,
             })?;
-            let below = if node.stands {
-                &[]
-            } else {
-                trees.children(tree)
-            };
-            for child in below.iter().rev() {
-                open.push((level.saturating_add(1), *child))?;
+            if !node.stands {
+                for child in trees.children(tree).iter().rev() {
+                    open.push((level.saturating_add(1), *child))?;
+                }
             }
         }
         Ok(nodes)
@@ -257,7 +356,7 @@ impl Scene<'_> {
         self,
         block: &Block,
         answers: &[Answer],
-        (offer, mended): (Offer, Option<&Mended>),
+        (offer, mended, split): (Offer, Option<&Mended>, Option<Split>),
     ) -> Made<CauseSheet> {
         let (alloc, kind, group) = (self.alloc, &block.first.kind, block.first.group);
         let mut cause = CauseSheet::new(alloc, kind, offer);
@@ -274,10 +373,13 @@ impl Scene<'_> {
         cause.states = kind.states(alloc, self.tables, group)?;
         cause.loses = Vec::from_slice(alloc, kind.others())?;
         cause.rivals = self.rivals(block)?;
-        cause.ambiguous = answers.iter().any(|answer| answer.twins.is_some());
+        cause.ambiguous = are_twins(answers);
         cause.sentences = self.sentences(answers)?;
         if let Some(mended) = mended {
             cause.mend = Some(self.mend_sheet(mended)?);
+        }
+        if let Some(split) = split {
+            cause.split = Some(self.split_sheet(split)?);
         }
         Ok(cause)
     }

@@ -2,7 +2,7 @@
 
 use crate::document::Said;
 use crate::format::Format;
-use crate::inputs::{InputSheet, answer_of, place};
+use crate::inputs::{InputSheet, answer_of};
 use crate::late::Defaults;
 use crate::messaged::Messaged;
 use std::alloc::{AllocError, Global};
@@ -49,35 +49,6 @@ pub fn bytes_of<F: Files + AllocGlobal, R: Read>(
 /// An input that is rejected, and its bytes.
 type Rejected = (Input, Vec<u8>);
 
-/// Says what is wrong at each error of an input after the first one, as a parse reports them by the
-/// recovery that the grammar has. Of a tokens file of these bytes it says their places.
-pub fn add_further(
-    alloc: Global,
-    messaged: Messaged,
-    told: &mut Diagnostics,
-    (path, source): (&str, Option<&[u8]>),
-    input: &Input,
-) -> io::Result<Messaged> {
-    let (messaged, found) = messaged.reported(alloc, input)?;
-    let mut is_first = true;
-    for rejection in found {
-        let number = rejection.number;
-        let verdict = Verdict::Rejected(rejection);
-        let message = messaged.message(alloc, input, &verdict)?;
-        let message = message.as_ref().map(Vec::as_slice);
-        let spoken = messaged.language.spoken();
-        let one = verdict.diagnostic(alloc, spoken, path, input, message)?;
-        if let (false, Some(mut one)) = (is_first, one) {
-            if let Some(source) = source {
-                place(&mut one, (path, source), input, number);
-            }
-            told.add(one)?;
-        }
-        is_first = false;
-    }
-    Ok(messaged)
-}
-
 impl Asked<'_> {
     /// What is said of an input, the exit status where nothing else is said, and the input, where it
     /// has further errors to be said.
@@ -119,6 +90,31 @@ impl Asked<'_> {
         let goes_on = self.all && matches!(verdict, Verdict::Rejected(_));
         Ok((sheet, status, goes_on.then_some((input, source))))
     }
+
+    /// Says what is wrong with each input, and gives what comes of them and the exit status.
+    fn take_all<F: Files + AllocGlobal, R: Read>(
+        self,
+        rt: &F,
+        stdin: &mut R,
+        messaged: Messaged,
+        told: &mut Diagnostics,
+    ) -> io::Result<(Vec<InputSheet>, u8)> {
+        let alloc = rt.alloc();
+        let mut messaged = messaged;
+        let (mut sheets, mut status) = (Vec::new(alloc), 0);
+        let mut defaults = Defaults::new();
+        for path in self.inputs {
+            let by = (&messaged, &mut *told, &mut defaults);
+            let (sheet, ended, rejected) = self.take(rt, stdin, by, path)?;
+            sheets.push(sheet).map_err(AllocError::from)?;
+            status = ended.max(status);
+            if let Some((input, source)) = rejected {
+                let of = (*path, Some(source.as_slice()));
+                messaged = messaged.add_further(alloc, told, of, &input)?;
+            }
+        }
+        Ok((sheets, status))
+    }
 }
 
 impl<'a> Asked<'a> {
@@ -153,27 +149,21 @@ pub fn run_checking<F: Files + AllocGlobal, R: Read, W: Write>(
 ) -> io::Result<u8> {
     let (alloc, most) = (rt.alloc(), asked.most);
     let mut told = Diagnostics::new(alloc);
-    let messages = asked.messages.map(|path| Limited { path, most });
-    let mut messaged = match Messaged::open(rt, asked.files, messages, &mut told)? {
-        Ok(messaged) => messaged,
+    let messages = match asked.messages {
+        Some(path) => Some(Limited { path, most }),
+        None => None,
+    };
+    let (inputs, status) = match Messaged::open(rt, asked.files, messages, &mut told)? {
+        Ok(messaged) => {
+            let (sheets, status) = asked.take_all(rt, stdin, messaged, &mut told)?;
+            (Some(sheets), status)
+        }
         Err(status) => {
             told.judge(0, Severity::Error);
-            let told = told.only(alloc, asked.shown)?;
-            return asked.put(alloc, &told, None, status, out);
+            (None, status)
         }
     };
-    let (mut sheets, mut status) = (Vec::new(alloc), 0);
-    let mut defaults = Defaults::new();
-    for path in asked.inputs {
-        let by = (&messaged, &mut told, &mut defaults);
-        let (sheet, ended, rejected) = asked.take(rt, stdin, by, path)?;
-        sheets.push(sheet).map_err(AllocError::from)?;
-        status = ended.max(status);
-        if let Some((input, source)) = rejected {
-            let of = (*path, Some(source.as_slice()));
-            messaged = add_further(alloc, messaged, &mut told, of, &input)?;
-        }
-    }
     let told = told.only(alloc, asked.shown)?;
-    asked.put(alloc, &told, Some(&sheets), status, out)
+    let inputs = inputs.as_ref().map(Vec::as_slice);
+    asked.put(alloc, &told, inputs, status, out)
 }

@@ -1,7 +1,7 @@
 //! What many conflicts have in common, as data.
 
+use crate::events::Events;
 use crate::kinds::names_of;
-use serde::Serialize;
 use std::alloc::Global;
 use yexplain::reads::Made;
 use yreports::causes::Causes;
@@ -9,7 +9,7 @@ use ysymbols::Grammar;
 
 /// A change that settles conflicts: these tokens get precedence lines, and a rule a name of its
 /// own.
-#[derive(Drop, Serialize)]
+#[derive(Drop)]
 struct ChangeSheet {
     tokens: Vec<String>,
     rule: Option<usize>,
@@ -17,8 +17,19 @@ struct ChangeSheet {
     settles: usize,
 }
 
+impl ChangeSheet {
+    /// Adds it to a document.
+    fn add_to(&self, events: &mut Events) {
+        events.begin();
+        events.texts("tokens", &self.tokens);
+        events.number_if("rule", self.rule);
+        events.number("settles", self.settles);
+        events.end();
+    }
+}
+
 /// Two rules between which conflicts are, whatever precedences they have.
-#[derive(Drop, Serialize)]
+#[derive(Drop)]
 struct PairSheet {
     /// The one that is taken, and the one that isn't.
     taken: usize,
@@ -26,8 +37,19 @@ struct PairSheet {
     conflicts: usize,
 }
 
+impl PairSheet {
+    /// Adds it to a document.
+    fn add_to(&self, events: &mut Events) {
+        events.begin();
+        events.number("taken", self.taken);
+        events.number("rule", self.rule);
+        events.number("conflicts", self.conflicts);
+        events.end();
+    }
+}
+
 /// A rule whose language others have too.
-#[derive(Drop, Serialize)]
+#[derive(Drop)]
 struct CoveredSheet {
     rule: usize,
     /// Those by which its left side derives its body too.
@@ -36,14 +58,49 @@ struct CoveredSheet {
     settles: usize,
 }
 
+impl CoveredSheet {
+    /// Adds it to a document.
+    fn add_to(&self, events: &mut Events) {
+        events.begin();
+        events.number("rule", self.rule);
+        events.numbers("by", &self.by);
+        events.number("settles", self.settles);
+        events.end();
+    }
+}
+
 /// What many conflicts have in common.
-#[derive(Drop, Serialize)]
+#[derive(Drop)]
 pub struct CommonSheet {
     /// How many conflicts there are.
     conflicts: usize,
     changes: Vec<ChangeSheet>,
     pairs: Vec<PairSheet>,
     covered: Vec<CoveredSheet>,
+}
+
+impl CommonSheet {
+    /// Adds it to a document.
+    pub fn add_to(&self, events: &mut Events) {
+        events.begin();
+        events.number("conflicts", self.conflicts);
+        events.begin_list("changes");
+        for change in &self.changes {
+            change.add_to(events);
+        }
+        events.end_list();
+        events.begin_list("pairs");
+        for pair in &self.pairs {
+            pair.add_to(events);
+        }
+        events.end_list();
+        events.begin_list("covered");
+        for covered in &self.covered {
+            covered.add_to(events);
+        }
+        events.end_list();
+        events.end();
+    }
 }
 
 /// What conflicts have in common.

@@ -1,8 +1,8 @@
 //! How conflicts are settled otherwise, as data.
 
+use crate::events::Events;
 use crate::kinds::{named, names_of};
 use crate::scene::Scene;
-use serde::Serialize;
 use std::alloc::Global;
 use yexplain::advice::{Advice, Deed, Hint};
 use yexplain::mends::{Mend, mend_of};
@@ -35,7 +35,6 @@ const ALL_KINDS: Kinds = Kinds {
 
 /// A change of the text that settles a conflict: what stands from one place of the file to another
 /// becomes a text.
-#[derive(Serialize)]
 pub struct EditSheet {
     /// `shift` or `reduce`: what is done then.
     pub action: &'static str,
@@ -61,8 +60,25 @@ impl Drop for EditSheet {
     }
 }
 
+impl EditSheet {
+    /// Adds it to a document.
+    fn add_to(&self, events: &mut Events) {
+        events.begin();
+        events.word("action", self.action);
+        events.text("file", &self.file);
+        events.number("line", self.line);
+        events.number("column", self.column);
+        events.number("end_line", self.end_line);
+        events.number("end_column", self.end_column);
+        events.text("text", &self.text);
+        events.number_if("tried", self.tried);
+        events.number("lost", self.lost);
+        events.texts("example", &self.example);
+        events.end();
+    }
+}
+
 /// How a conflict is settled otherwise.
-#[derive(Serialize)]
 pub struct HintSheet {
     /// What it takes.
     advice: &'static str,
@@ -88,6 +104,27 @@ impl Drop for HintSheet {
         let_go!(self: HintSheet {
             advice, rule, tokens, giver, shifts, reduces, own, also, edits
         });
+    }
+}
+
+impl HintSheet {
+    /// Adds it to a document.
+    pub fn add_to(&self, events: &mut Events) {
+        events.begin();
+        events.word("advice", self.advice);
+        events.number_if("rule", self.rule);
+        events.texts("tokens", &self.tokens);
+        events.text_if("giver", &self.giver);
+        events.words("shifts", &self.shifts);
+        events.words("reduces", &self.reduces);
+        events.flag("own", self.own);
+        events.numbers("also", &self.also);
+        events.begin_list("edits");
+        for edit in &self.edits {
+            edit.add_to(events);
+        }
+        events.end_list();
+        events.end();
     }
 }
 
@@ -131,24 +168,37 @@ fn turned(advice: &'static str, reduces: bool, shifts: bool) -> Said {
     }
 }
 
-/// What a hint says.
-fn said_of(hint: Hint) -> Said {
-    let plain = |advice| turned(advice, false, false);
-    let by = |advice, giver, shifts, reduces| Said {
+/// That lines for the token that gives the rule its precedence shift and reduce.
+fn by(advice: &'static str, giver: Sym, shifts: Kinds, reduces: Kinds) -> Said {
+    Said {
         advice,
         giver: Some(giver),
         shifts,
         reduces,
         own: false,
-    };
+    }
+}
+
+/// What came of a choice on sentences, where it was tried.
+fn loss_of(class: &Class, deed: Deed) -> Option<&Loss> {
+    for loss in &class.losses {
+        if loss.deed == deed {
+            return Some(loss);
+        }
+    }
+    None
+}
+
+/// What a hint says.
+fn said_of(hint: Hint) -> Said {
     match hint {
-        Hint::First => plain("first"),
-        Hint::General | Hint::Settle(_, Advice::General) => plain("general"),
-        Hint::Settle(_, Advice::End) => plain("end"),
-        Hint::Settle(_, Advice::Inner) => plain("inner"),
+        Hint::First => turned("first", false, false),
+        Hint::General | Hint::Settle(_, Advice::General) => turned("general", false, false),
+        Hint::Settle(_, Advice::End) => turned("end", false, false),
+        Hint::Settle(_, Advice::Inner) => turned("inner", false, false),
         Hint::Settle(_, Advice::Own) => Said {
             own: true,
-            ..plain("own")
+            ..turned("own", false, false)
         },
         Hint::Settle(_, Advice::Both { reduces, shifts }) => turned("both", reduces, shifts),
         Hint::Settle(_, Advice::Rule(giver)) => by("rule", giver, ALL_KINDS, ALL_KINDS),
@@ -238,10 +288,8 @@ impl Scene<'_> {
         sheet.also = Vec::from_slice(alloc, &class.also)?;
         let asked = entry.cell(self.tables, self.shown.lines);
         for deed in [Deed::Shift, Deed::Reduce] {
-            let mend = mend_of(asked, hint, deed).filter(|_| self.shown.is_plain);
-            if let Some(mend) = mend {
-                let loss = class.losses.iter().find(|it| it.deed == deed);
-                if let Some(edit) = self.edit(mend, loss)? {
+            if let (true, Some(mend)) = (self.shown.is_plain, mend_of(asked, hint, deed)) {
+                if let Some(edit) = self.edit(mend, loss_of(class, deed))? {
                     sheet.edits.push(edit)?;
                 }
             }

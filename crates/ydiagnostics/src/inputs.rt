@@ -1,8 +1,8 @@
 //! Verdicts on inputs.
 
+use crate::events::Events;
 use crate::kinds::names_of;
 use crate::late::Late;
-use serde::Serialize;
 use std::alloc::Global;
 use std::io;
 use yexplain::reads::Made;
@@ -15,7 +15,6 @@ use yinput::verdict::Verdict;
 use ysymbols::{Grammar, let_go};
 
 /// What comes of an input.
-#[derive(Serialize)]
 pub struct InputSheet {
     file: String,
     /// `accepted`, `rejected`, `undecided` or `refused`.
@@ -38,6 +37,28 @@ impl Drop for InputSheet {
         let_go!(self: InputSheet {
             file, verdict, steps, number, token, expected, unknown, late
         });
+    }
+}
+
+impl InputSheet {
+    /// Adds it to a document.
+    pub fn add_to(&self, events: &mut Events) {
+        events.begin();
+        events.text("file", &self.file);
+        events.word("verdict", self.verdict);
+        events.number_if("steps", self.steps);
+        events.number_if("number", self.number);
+        events.text_if("token", &self.token);
+        events.texts("expected", &self.expected);
+        events.texts("unknown", &self.unknown);
+        match &self.late {
+            Some(late) => {
+                events.key("late");
+                late.add_to(events);
+            }
+            None => events.nothing("late"),
+        }
+        events.end();
     }
 }
 

@@ -1,6 +1,7 @@
 //! Conflicts, each kind with its rules and with lists of tokens that get there.
 
-use serde::Serialize;
+use crate::events::Events;
+use crate::sheet::place_of;
 use std::alloc::Global;
 use yexplain::lines::Lines;
 use yexplain::reads::Made;
@@ -12,7 +13,6 @@ use ysearch::trial::Trial;
 use ysymbols::{Grammar, Sym, let_go};
 
 /// A rule: its number, its place and its text.
-#[derive(Serialize)]
 pub struct RuleSheet {
     rule: usize,
     line: Option<usize>,
@@ -27,8 +27,19 @@ impl Drop for RuleSheet {
     }
 }
 
+impl RuleSheet {
+    /// Adds it to a document.
+    fn add_to(&self, events: &mut Events) {
+        events.begin();
+        events.number("rule", self.rule);
+        events.number_if("line", self.line);
+        events.number_if("column", self.column);
+        events.text("text", &self.text);
+        events.end();
+    }
+}
+
 /// A list of tokens that gets to a conflict.
-#[derive(Serialize)]
 pub struct ListSheet {
     /// The rules that it is for.
     rules: Vec<usize>,
@@ -47,8 +58,19 @@ impl Drop for ListSheet {
     }
 }
 
+impl ListSheet {
+    /// Adds it to a document.
+    fn add_to(&self, events: &mut Events) {
+        events.begin();
+        events.numbers("rules", &self.rules);
+        events.flag("both", self.both);
+        events.texts("tokens", &self.tokens);
+        events.word("parse", self.parse);
+        events.end();
+    }
+}
+
 /// A kind of conflict.
-#[derive(Serialize)]
 pub struct KindSheet {
     /// The first state that has it, how many have it, and the last one.
     state: usize,
@@ -69,6 +91,35 @@ impl Drop for KindSheet {
     // A call in each owner, which keeps their proofs short.
     fn drop(self) {
         let_go!(self: KindSheet { state, states, last, token, taken, rules, more, lists });
+    }
+}
+
+impl KindSheet {
+    /// Adds it to a document.
+    pub fn add_to(&self, events: &mut Events) {
+        events.begin();
+        events.number("state", self.state);
+        events.number("states", self.states);
+        events.number("last", self.last);
+        events.text("token", &self.token);
+        events.word("taken", self.taken);
+        events.begin_list("rules");
+        for rule in &self.rules {
+            rule.add_to(events);
+        }
+        events.end_list();
+        events.number("more", self.more);
+        match &self.lists {
+            Some(lists) => {
+                events.begin_list("lists");
+                for list in lists {
+                    list.add_to(events);
+                }
+                events.end_list();
+            }
+            None => events.nothing("lists"),
+        }
+        events.end();
     }
 }
 
@@ -126,12 +177,14 @@ impl Shown<'_> {
     fn rule_sheets(self, alloc: Global, grammar: &Grammar, kind: &Kind) -> Made<Vec<RuleSheet>> {
         let mut rules = Vec::new(alloc);
         for rule in kind.rules() {
-            let (spot, text) = (self.lines.spot(*rule), RuleText(grammar, *rule));
+            let (line, column) = place_of(self.lines.spot(*rule));
+            let text = RuleText(grammar, *rule);
+            let text = format!(in alloc; "{text}")?;
             rules.push(RuleSheet {
                 rule: *rule,
-                line: spot.map(|spot| spot.line),
-                column: spot.and_then(|spot| spot.column),
-                text: format!(in alloc; "{text}")?,
+                line,
+                column,
+                text,
             })?;
         }
         Ok(rules)

@@ -1,7 +1,7 @@
 //! Where a parser with default reductions detects an error: later than the tables do, by reductions
 //! that it makes first.
 
-use serde::Serialize;
+use crate::events::Events;
 use std::alloc::Global;
 use ycode::{Code, Policy, code_of};
 use yexplain::reads::{Made, goto_of, grammar_of, left_of};
@@ -20,7 +20,6 @@ const MOST_NAMED: usize = 20;
 const BITS: [usize; 8] = [1, 2, 4, 8, 16, 32, 64, 128];
 
 /// Where such a parser detects an error.
-#[derive(Serialize)]
 pub struct Late {
     /// The policy, as `lr.default-reduction` has it.
     policy: &'static str,
@@ -34,6 +33,17 @@ impl Drop for Late {
     // A call in each owner, which keeps their proofs short.
     fn drop(self) {
         let_go!(self: Late { policy, state, rules });
+    }
+}
+
+impl Late {
+    /// Adds it to a document.
+    pub fn add_to(&self, events: &mut Events) {
+        events.begin();
+        events.word("policy", self.policy);
+        events.number("state", self.state);
+        events.numbers("rules", &self.rules);
+        events.end();
     }
 }
 

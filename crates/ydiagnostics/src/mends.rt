@@ -1,17 +1,18 @@
 //! Idioms, changes that were tried and the second token of lookahead, as data.
 
+use crate::events::Events;
 use crate::kinds::{named, names_of};
 use crate::scene::Scene;
-use serde::Serialize;
 use yexplain::reads::{Made, grammar_of};
 use ymends::changed_text::Change;
 use ymends::idioms::{Form, Idiom};
 use ymends::mending::{Apart, Mended, Tried};
 use ymends::rewriting::Rewriting;
+use yreports::splitting::Split;
 use ysymbols::{Sym, let_go};
 
 /// An idiom: its form, the nonterminal, a second symbol, and the rules.
-#[derive(Drop, Serialize)]
+#[derive(Drop)]
 struct IdiomSheet {
     form: &'static str,
     symbol: String,
@@ -19,8 +20,20 @@ struct IdiomSheet {
     rules: Vec<usize>,
 }
 
+impl IdiomSheet {
+    /// Adds it to a document.
+    fn add_to(&self, events: &mut Events) {
+        events.begin();
+        events.word("form", self.form);
+        events.text("symbol", &self.symbol);
+        events.text_if("other", &self.other);
+        events.numbers("rules", &self.rules);
+        events.end();
+    }
+}
+
 /// A change that was tried.
-#[derive(Drop, Serialize)]
+#[derive(Drop)]
 struct TriedSheet {
     /// What is done, in which rule, with which symbol, and what comes in its place or after it.
     change: &'static str,
@@ -35,16 +48,41 @@ struct TriedSheet {
     sentences: Option<usize>,
 }
 
+impl TriedSheet {
+    /// Adds it to a document.
+    fn add_to(&self, events: &mut Events) {
+        events.begin();
+        events.word("change", self.change);
+        events.number_if("rule", self.rule);
+        events.text_if("symbol", &self.symbol);
+        events.text_if("by", &self.by);
+        events.number("left", self.left);
+        events.number_if("most", self.most);
+        events.number_if("sentences", self.sentences);
+        events.end();
+    }
+}
+
 /// The tokens after that of the conflict where what is taken is right, and where the rule is.
-#[derive(Drop, Serialize)]
+#[derive(Drop)]
 struct ApartSheet {
     rule: usize,
     taken: Vec<String>,
     other: Vec<String>,
 }
 
+impl ApartSheet {
+    /// Adds it to a document.
+    fn add_to(&self, events: &mut Events) {
+        events.begin();
+        events.number("rule", self.rule);
+        events.texts("taken", &self.taken);
+        events.texts("other", &self.other);
+        events.end();
+    }
+}
+
 /// What is known of a cause beside its rivals.
-#[derive(Serialize)]
 pub struct MendSheet {
     idiom: Option<IdiomSheet>,
     tried: Option<TriedSheet>,
@@ -55,6 +93,63 @@ impl Drop for MendSheet {
     // A call in each owner, which keeps their proofs short.
     fn drop(self) {
         let_go!(self: MendSheet { idiom, tried, apart });
+    }
+}
+
+impl MendSheet {
+    /// Adds it to a document.
+    pub fn add_to(&self, events: &mut Events) {
+        events.begin();
+        match &self.idiom {
+            Some(idiom) => {
+                events.key("idiom");
+                idiom.add_to(events);
+            }
+            None => events.nothing("idiom"),
+        }
+        match &self.tried {
+            Some(tried) => {
+                events.key("tried");
+                tried.add_to(events);
+            }
+            None => events.nothing("tried"),
+        }
+        match &self.apart {
+            Some(apart) => {
+                events.key("apart");
+                apart.add_to(events);
+            }
+            None => events.nothing("apart"),
+        }
+        events.end();
+    }
+}
+
+/// A copy of a nonterminal for the body of a rule, which splits states that were merged.
+#[derive(Drop)]
+pub struct SplitSheet {
+    /// The nonterminal, and the rule.
+    pub symbol: String,
+    rule: usize,
+    /// Where the rule begins.
+    pub line: Option<usize>,
+    pub column: Option<usize>,
+    /// How many conflicts are left with it, and how many there are.
+    pub left: usize,
+    pub all: usize,
+}
+
+impl SplitSheet {
+    /// Adds it to a document.
+    pub fn add_to(&self, events: &mut Events) {
+        events.begin();
+        events.text("symbol", &self.symbol);
+        events.number("rule", self.rule);
+        events.number_if("line", self.line);
+        events.number_if("column", self.column);
+        events.number("left", self.left);
+        events.number("all", self.all);
+        events.end();
     }
 }
 
@@ -88,7 +183,8 @@ fn parts_of(change: Change) -> Parts {
             ("replace", Some(rule), Some(symbol), Some(by))
         }
         Change::Rewritten(Rewriting::Opened { one, two }) => {
-            ("open", None, Some(one), Some(two).filter(|it| *it != one))
+            let other = if two == one { None } else { Some(two) };
+            ("open", None, Some(one), other)
         }
         Change::Rewritten(Rewriting::Separated { symbol, rule }) => {
             ("separate", Some(rule), Some(symbol), None)
@@ -123,14 +219,20 @@ impl Scene<'_> {
     /// A change that was tried.
     fn tried_sheet(self, tried: Tried) -> Made<TriedSheet> {
         let (change, rule, symbol, by) = parts_of(tried.change);
+        let (most, sentences) = match tried.same {
+            Some((most, sentences)) => (Some(most), Some(sentences)),
+            None => (None, None),
+        };
+        let symbol = self.name_if(symbol)?;
+        let by = self.name_if(by)?;
         Ok(TriedSheet {
             change,
             rule,
-            symbol: self.name_if(symbol)?,
-            by: self.name_if(by)?,
+            symbol,
+            by,
             left: tried.left,
-            most: tried.same.map(|it| it.0),
-            sentences: tried.same.map(|it| it.1),
+            most,
+            sentences,
         })
     }
 
@@ -141,6 +243,23 @@ impl Scene<'_> {
             rule: apart.rule,
             taken: names_of(self.alloc, grammar, &apart.taken)?,
             other: names_of(self.alloc, grammar, &apart.other)?,
+        })
+    }
+
+    /// A copy that was tried.
+    pub fn split_sheet(self, split: Split) -> Made<SplitSheet> {
+        let (line, column) = match self.shown.lines.spot(split.rule) {
+            Some(spot) => (Some(spot.line), spot.column),
+            None => (None, None),
+        };
+        let symbol = named(self.alloc, grammar_of(self.tables), split.symbol)?;
+        Ok(SplitSheet {
+            symbol,
+            rule: split.rule,
+            line,
+            column,
+            left: split.left,
+            all: split.all,
         })
     }
 

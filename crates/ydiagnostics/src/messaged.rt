@@ -1,12 +1,14 @@
 //! A language with the messages for its errors.
 
+use crate::inputs::place;
 use std::alloc::Global;
 use std::io;
 use std::rt::Files;
 use yfiles::diagnostic::Diagnostics;
 use yfiles::reading::Limited;
 use yinput::language::{Input, Language, LanguageFiles};
-use yinput::reported::reported_in;
+use yinput::reported::{MOST_STEPS, Reporting};
+use yinput::spelled::Spoken;
 use yinput::verdict::{Rejection, Verdict};
 use ymessages::filling::filled;
 use ymessages::messages::Messages;
@@ -25,6 +27,40 @@ impl Drop for Messaged {
     fn drop(self) {
         let_go!(self: Messaged { language, messages });
     }
+}
+
+/// The message about a rejection of an input, where there is one.
+fn message_of(
+    alloc: Global,
+    messages: Option<&Messages>,
+    spoken: Spoken<'_>,
+    input: &Input,
+    rejection: &Rejection,
+) -> io::Result<Option<Vec<u8>>> {
+    let Some(messages) = messages else {
+        return Ok(None);
+    };
+    match messages.of(rejection.state) {
+        Some(message) => filled(alloc, spoken, message, input, rejection).map(Some),
+        None => Ok(None),
+    }
+}
+
+/// Says what is wrong at an error of an input. Of a tokens file of these bytes it says the place.
+fn add_error(
+    alloc: Global,
+    told: &mut Diagnostics,
+    (spoken, messages): (Spoken<'_>, Option<&Messages>),
+    (path, source): (&str, Option<&[u8]>),
+    (input, rejection): (&Input, &Rejection),
+) -> io::Result<()> {
+    let message = message_of(alloc, messages, spoken, input, rejection)?;
+    let message = message.as_ref().map(Vec::as_slice);
+    let mut one = rejection.diagnostic(alloc, spoken, path, input, message)?;
+    if let Some(source) = source {
+        place(&mut one, (path, source), input, rejection.number);
+    }
+    Ok(told.add(one)?)
 }
 
 impl Messaged {
@@ -60,14 +96,11 @@ impl Messaged {
         input: &Input,
         verdict: &Verdict,
     ) -> io::Result<Option<Vec<u8>>> {
-        let (Some(messages), Verdict::Rejected(rejection)) = (&self.messages, verdict) else {
+        let Verdict::Rejected(rejection) = verdict else {
             return Ok(None);
         };
-        let spoken = self.language.spoken();
-        match messages.of(rejection.state) {
-            Some(message) => filled(alloc, spoken, message, input, rejection).map(Some),
-            None => Ok(None),
-        }
+        let (messages, spoken) = (self.messages.as_ref(), self.language.spoken());
+        message_of(alloc, messages, spoken, input, rejection)
     }
 
     /// The language, once no more message is asked for.
@@ -79,11 +112,29 @@ impl Messaged {
         language
     }
 
-    /// All errors that a parse over an input of the language reports, by the recovery that the
-    /// grammar has.
-    pub fn reported(self, alloc: Global, input: &Input) -> io::Result<(Messaged, Vec<Rejection>)> {
+    /// Says what is wrong at each error of an input after the first one, as a parse reports them by
+    /// the recovery that the grammar has. Of a tokens file of these bytes it says their places.
+    pub fn add_further(
+        self,
+        alloc: Global,
+        told: &mut Diagnostics,
+        of: (&str, Option<&[u8]>),
+        input: &Input,
+    ) -> io::Result<Messaged> {
         let Messaged { language, messages } = self;
-        let (language, found) = reported_in(alloc, language, input)?;
-        Ok((Messaged { language, messages }, found))
+        let mut reporting = Reporting::new(alloc, language, input)?;
+        let mut is_first = true;
+        for _ in 0..MOST_STEPS {
+            let Some(rejection) = reporting.next(alloc, input)? else {
+                break;
+            };
+            if !is_first {
+                let by = (reporting.spoken(), messages.as_ref());
+                add_error(alloc, told, by, of, (input, &rejection))?;
+            }
+            is_first = false;
+        }
+        let language = reporting.into_language();
+        Ok(Messaged { language, messages })
     }
 }

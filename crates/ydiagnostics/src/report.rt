@@ -7,23 +7,21 @@ use crate::kinds::Shown;
 use crate::scene::Scene;
 use crate::sought::sought_for;
 use std::alloc::Global;
-use std::io::{self, ErrorKind, Write};
+use std::io::{self, Write};
 use std::rt::Files;
 use yaccepted::expected::{Counts, Expectation};
 use yaccepted::judged::{self, Judged, Telling, judge};
-use yaccepted::opening::{Counted, File, open_bytes, open_counted};
+use yaccepted::opening::{Counted, File, open_counted};
 use yexplain::reads::grammar_of;
 use yfaults::opening::Opened;
 use yfiles::category::Choice;
 use yfiles::diagnostic::{Diagnostics, Severity};
-use yfrontend::import::Dialect;
 use yparse::Session;
 use yreports::blocks::shown_of;
 use yreports::causes::causes_of;
 use yreports::warnings::warnings_of;
 use ysearch::groups::Conflicts;
 use ysearch::trial::empty_session;
-use ysymbols::let_go;
 
 /// What is asked for.
 #[derive(Clone, Copy)]
@@ -93,9 +91,18 @@ fn sheet_of(
     Ok(sheet)
 }
 
+/// How bad conflicts are that are judged so; what a list hasn't is reported by itself.
+pub fn severity_of(judged: &Judged) -> Severity {
+    if judged.is_accepted() == Some(true) || judged.listed.is_some() {
+        Severity::Note
+    } else {
+        Severity::Warning
+    }
+}
+
 /// Tells the conflicts and the warnings of a grammar whose conflicts are judged, and gives the
 /// conflicts as data, and the grammar again.
-fn tell_all(
+pub fn tell_all(
     alloc: Global,
     told: &mut Diagnostics,
     asked: Asked<'_>,
@@ -106,17 +113,10 @@ fn tell_all(
     let Opened { tables, lines } = opened;
     let warnings = warnings_of(alloc, path, &tables, &lines)?;
     let mut session = empty_session(alloc, tables);
-    // what a list hasn't is reported by itself
-    let is_noted = accepted == Some(true) || judged.listed.is_some();
-    let severity = if is_noted {
-        Severity::Note
-    } else {
-        Severity::Warning
-    };
     let shown = Shown {
         lines: &lines,
         path,
-        severity,
+        severity: severity_of(judged),
         is_plain,
     };
     let sheet = sheet_of(alloc, told, (asked, shown), &mut session, accepted)?;
@@ -199,72 +199,4 @@ pub fn run_report<F: Files + AllocGlobal, W: Write>(
             said(asked, status, &told).put(rt.alloc(), out, asked.format)
         }
     }
-}
-
-/// What is said of a grammar, and the grammar, where it is taken.
-pub struct Told {
-    /// What is said.
-    pub told: Diagnostics,
-    /// Its conflicts.
-    pub conflicts: Option<ConflictSheet>,
-    /// Its tables, and where things stand in its file.
-    pub opened: Option<Opened>,
-}
-
-impl Drop for Told {
-    // A call in each owner, which keeps their proofs short.
-    fn drop(self) {
-        let_go!(self: Told { told, conflicts, opened });
-    }
-}
-
-impl Told {
-    /// What is said of a grammar that is refused.
-    fn refused(alloc: Global, choice: Choice, told: Diagnostics) -> io::Result<Told> {
-        let mut told = told;
-        told.judge(0, Severity::Error);
-        Ok(Told {
-            told: told.only(alloc, choice.shown)?,
-            conflicts: None,
-            opened: None,
-        })
-    }
-}
-
-/// What `run_report` says of a file with these bytes, where nothing but the file itself says which
-/// conflicts are accepted.
-pub fn told_of<F: Files + AllocGlobal>(rt: &F, path: &str, bytes: Vec<u8>) -> io::Result<Told> {
-    let (alloc, mut told) = (rt.alloc(), Diagnostics::new(rt.alloc()));
-    let Some(choice) = Choice::of(&[], &[]) else {
-        return Err(io::Error::from(ErrorKind::Other));
-    };
-    let asked = Asked {
-        file: File {
-            path,
-            dialect: Dialect::Seen,
-            comments: false,
-        },
-        accepted: judged::Asked {
-            grammar: path,
-            expect: None,
-            accept: None,
-            update: false,
-        },
-        choice,
-        format: Format::Gcc,
-    };
-    let Ok(counted) = open_bytes(alloc, asked.file, bytes, &mut told)? else {
-        return Told::refused(alloc, choice, told);
-    };
-    let Ok(judged) = judge(rt, asked.accepted, &counted, &mut told)? else {
-        return Told::refused(alloc, choice, told);
-    };
-    let is_plain = !matches!(counted.expected, Expectation::Directives(..));
-    let Counted { opened, .. } = counted;
-    let (conflicts, opened) = tell_all(alloc, &mut told, asked, (opened, is_plain), &judged)?;
-    Ok(Told {
-        told: told.only(alloc, choice.shown)?,
-        conflicts: Some(conflicts),
-        opened: Some(opened),
-    })
 }

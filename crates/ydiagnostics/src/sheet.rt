@@ -1,6 +1,6 @@
 //! What is said of a place, as programs read it.
 
-use serde::Serialize;
+use crate::events::Events;
 use std::alloc::Global;
 use std::str;
 use yexplain::reads::Made;
@@ -11,7 +11,6 @@ use yfiles::place::Spot;
 use ysymbols::let_go;
 
 /// What is said of a place.
-#[derive(Serialize)]
 pub struct DiagnosticSheet {
     /// The path of the file, where it is about one.
     file: Option<String>,
@@ -28,7 +27,6 @@ pub struct DiagnosticSheet {
     /// What helps.
     notes: Vec<String>,
     /// The place of each note.
-    #[serde(skip)]
     spots: Vec<Option<Spot>>,
 }
 
@@ -38,6 +36,37 @@ impl Drop for DiagnosticSheet {
         let_go!(self: DiagnosticSheet {
             file, line, column, severity, category, message, notes, spots
         });
+    }
+}
+
+impl DiagnosticSheet {
+    /// Adds it to a document.
+    pub fn add_to(&self, events: &mut Events) {
+        events.begin();
+        events.text_if("file", &self.file);
+        events.number_if("line", self.line);
+        events.number_if("column", self.column);
+        events.word("severity", self.severity);
+        events.word_if("category", self.category);
+        events.text("message", &self.message);
+        events.texts("notes", &self.notes);
+        events.end();
+    }
+}
+
+/// The line and the column of a place, as far as they are known.
+pub fn place_of(spot: Option<Spot>) -> (Option<usize>, Option<usize>) {
+    match spot {
+        Some(spot) => (Some(spot.line), spot.column),
+        None => (None, None),
+    }
+}
+
+/// The place at a line and a column, where the line is known.
+pub fn spot_at(line: Option<usize>, column: Option<usize>) -> Option<Spot> {
+    match line {
+        Some(line) => Some(Spot { line, column }),
+        None => None,
     }
 }
 
@@ -53,45 +82,54 @@ fn text_of(alloc: Global, bytes: &[u8]) -> Made<String> {
 }
 
 impl DiagnosticSheet {
-    /// What is said. Of a message of several lines the first says what, and the others help. What
-    /// the excerpt alone shows of the place comes first.
-    fn of(alloc: Global, one: &Diagnostic) -> Made<DiagnosticSheet> {
-        let (mut message, mut notes) = (String::new(alloc), Vec::new(alloc));
-        let mut spots = Vec::new(alloc);
+    /// Begins what is said with the code and with what the excerpt alone shows of the place.
+    fn begin(&mut self, alloc: Global, one: &Diagnostic) -> Made<()> {
         if let Some(code) = one.code {
-            message = format!(in alloc; "{code}: ")?;
+            self.message.push_str(code)?;
+            self.message.push_str(": ")?;
         }
         if !one.subject.is_empty() {
             let subject = text_of(alloc, &one.subject)?;
-            message = format!(in alloc; "{message}{subject}: ")?;
+            self.message.push_str(&subject)?;
+            self.message.push_str(": ")?;
         }
+        Ok(())
+    }
+
+    /// What is said. Of a message of several lines the first says what, and the others help.
+    fn of(alloc: Global, one: &Diagnostic) -> Made<DiagnosticSheet> {
+        let (line, column) = place_of(one.spot);
+        let mut sheet = DiagnosticSheet {
+            file: None,
+            line,
+            column,
+            severity: one.severity.word(),
+            category: match one.category {
+                Some(category) => Some(category.name()),
+                None => None,
+            },
+            message: String::new(alloc),
+            notes: Vec::new(alloc),
+            spots: Vec::new(alloc),
+        };
+        if let Some(path) = &one.file {
+            sheet.file = Some(String::from_str(alloc, path)?);
+        }
+        sheet.begin(alloc, one)?;
         for (number, line) in one.message.split(|byte| *byte == b'\n').enumerate() {
             let text = text_of(alloc, line)?;
             if number == 0 {
-                message.push_str(&text)?;
+                sheet.message.push_str(&text)?;
             } else {
-                notes.push(text)?;
-                spots.push(one.spot)?;
+                sheet.notes.push(text)?;
+                sheet.spots.push(one.spot)?;
             }
         }
         for note in &one.notes {
-            notes.push(text_of(alloc, &note.text)?)?;
-            spots.push(note.spot.or(one.spot))?;
+            sheet.notes.push(text_of(alloc, &note.text)?)?;
+            sheet.spots.push(note.spot.or(one.spot))?;
         }
-        let file = match &one.file {
-            Some(path) => Some(String::from_str(alloc, path)?),
-            None => None,
-        };
-        Ok(DiagnosticSheet {
-            file,
-            line: one.spot.map(|spot| spot.line),
-            column: one.spot.and_then(|spot| spot.column),
-            severity: one.severity.word(),
-            category: one.category.map(|it| it.name()),
-            message,
-            notes,
-            spots,
-        })
+        Ok(sheet)
     }
 
     /// Writes the file and a place of it, as the front of a line.
@@ -107,8 +145,7 @@ impl DiagnosticSheet {
 
     /// Writes it as gcc does, with the option that shows its category, and a line for each note.
     pub fn put(&self, out: &mut Output) {
-        let column = self.column;
-        self.put_front(out, self.line.map(|line| Spot { line, column }));
+        self.put_front(out, spot_at(self.line, self.column));
         out.put(self.severity);
         out.put(": ");
         out.put(&self.message);
@@ -118,8 +155,8 @@ impl DiagnosticSheet {
             out.put("]");
         }
         out.line("");
-        for (note, spot) in self.notes.iter().zip(&self.spots) {
-            self.put_front(out, *spot);
+        for (number, note) in self.notes.iter().enumerate() {
+            self.put_front(out, self.spots.get(number).copied().flatten());
             out.put("note: ");
             out.line(note);
         }

@@ -12,9 +12,11 @@ use yreports::ambiguity::block_answers;
 use yreports::blocks::{Blocks, blocks_of};
 use yreports::lost::try_choices;
 use yreports::offer::Offer;
+use yreports::splitting::{Split, Splitter};
 use ysearch::finding::{Finding, Seeker};
-use ysearch::groups::Conflicts;
+use ysearch::groups::{Conflicts, Group, Kind};
 use ysymbols::let_go;
+use ytables::Tables;
 
 /// The most kinds for which lists are sought.
 const MOST_SOUGHT: usize = 200;
@@ -29,6 +31,8 @@ pub struct Sought {
     pub answers: Vec<Vec<Answer>>,
     /// What is known of the same kinds beside their rivals.
     pub mended: Vec<Mended>,
+    /// The copies that split merged states, of the same kinds.
+    pub splits: Vec<Option<Split>>,
     /// The trees of sentences.
     pub found: Ambiguities,
     /// The idioms of the grammar.
@@ -38,7 +42,72 @@ pub struct Sought {
 impl Drop for Sought {
     // A call in each owner, which keeps their proofs short.
     fn drop(self) {
-        let_go!(self: Sought { blocks, findings, answers, mended, found, idioms });
+        let_go!(self: Sought { blocks, findings, answers, mended, splits, found, idioms });
+    }
+}
+
+impl Sought {
+    /// Nothing but the conflicts themselves.
+    pub fn none(alloc: Global, blocks: Blocks) -> Sought {
+        Sought {
+            blocks,
+            findings: Vec::new(alloc),
+            answers: Vec::new(alloc),
+            mended: Vec::new(alloc),
+            splits: Vec::new(alloc),
+            found: Ambiguities::new(alloc),
+            idioms: Vec::new(alloc),
+        }
+    }
+}
+
+impl Sought {
+    /// Nothing is sought yet beside the choices for these conflicts.
+    fn new(
+        alloc: Global,
+        tables: &Tables,
+        lines: &Lines,
+        conflicts: &Conflicts,
+    ) -> io::Result<Sought> {
+        let mut blocks = blocks_of(alloc, tables, lines, conflicts)?;
+        try_hints(alloc, tables, lines, conflicts, &mut blocks)?;
+        try_choices(alloc, tables, lines, &mut blocks)?;
+        Ok(Sought {
+            blocks,
+            findings: Vec::new(alloc),
+            answers: Vec::new(alloc),
+            mended: Vec::new(alloc),
+            splits: Vec::new(alloc),
+            found: Ambiguities::new(alloc),
+            idioms: Vec::new(alloc),
+        })
+    }
+
+    /// Seeks lists for a kind, and where a block begins with it, sentences and changes.
+    fn seek(
+        &mut self,
+        alloc: Global,
+        (seeker, mender, splitter): (&mut Seeker<'_>, &mut Mender, &mut Splitter),
+        lines: &Lines,
+        (kind, group): (&Kind, Group),
+    ) -> io::Result<()> {
+        let (number, next) = (self.findings.len(), self.answers.len());
+        let finding = seeker.find(kind, group)?;
+        if let Some(block) = self.blocks.list.get(next) {
+            if block.first.number == number {
+                let (asked, given) = ((block, &finding), mender.sentences());
+                let some = block_answers(alloc, seeker, &mut self.found, asked, given)?;
+                let offer = Offer::of(&finding, &some);
+                let (tables, cells) = (seeker.session.tables(), (kind, group));
+                let one = mender.mend(tables, lines, cells, offer.is_open())?;
+                self.mended.push(one).map_err(AllocError::from)?;
+                let split = splitter.split(alloc, (tables, lines), kind, &finding)?;
+                self.splits.push(split).map_err(AllocError::from)?;
+                self.answers.push(some).map_err(AllocError::from)?;
+            }
+        }
+        self.findings.push(finding).map_err(AllocError::from)?;
+        Ok(())
     }
 }
 
@@ -49,42 +118,17 @@ pub fn sought_for(
     lines: &Lines,
     conflicts: &Conflicts,
 ) -> io::Result<Sought> {
-    let mut blocks = blocks_of(alloc, session.tables(), lines, conflicts)?;
-    try_hints(alloc, session.tables(), lines, conflicts, &mut blocks)?;
-    try_choices(alloc, session.tables(), lines, &mut blocks)?;
-    let (mut findings, mut answers, mut mended) = (
-        Vec::new(alloc),
-        Vec::new(alloc),
-        Vec::new(alloc),
-    );
-    let mut found = Ambiguities::new(alloc);
+    let mut sought = Sought::new(alloc, session.tables(), lines, conflicts)?;
     let mut mender = Mender::new(alloc, session.tables())?;
+    let mut splitter = Splitter::new();
     let mut seeker = Seeker::new(alloc, session)?;
     for (kind, group) in conflicts.groups.iter().take(MOST_SOUGHT) {
         if !seeker.finder.has_steps() {
             break;
         }
-        let (number, next) = (findings.len(), answers.len());
-        let begun = blocks.list.get(next).filter(|it| it.first.number == number);
-        let finding = seeker.find(kind, *group)?;
-        if let Some(block) = begun {
-            let (asked, given) = ((block, &finding), mender.sentences());
-            let some = block_answers(alloc, &mut seeker, &mut found, asked, given)?;
-            let offer = Offer::of(&finding, &some);
-            let (tables, cells) = (seeker.session.tables(), (kind, *group));
-            let one = mender.mend(tables, lines, cells, offer.is_open())?;
-            mended.push(one).map_err(AllocError::from)?;
-            answers.push(some).map_err(AllocError::from)?;
-        }
-        findings.push(finding).map_err(AllocError::from)?;
+        let by = (&mut seeker, &mut mender, &mut splitter);
+        sought.seek(alloc, by, lines, (kind, *group))?;
     }
-    let idioms = mender.into_idioms();
-    Ok(Sought {
-        blocks,
-        findings,
-        answers,
-        mended,
-        found,
-        idioms,
-    })
+    sought.idioms = mender.into_idioms();
+    Ok(sought)
 }

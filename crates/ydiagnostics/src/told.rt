@@ -2,20 +2,22 @@
 //! sentence, for each rival at its place, and for what settles them otherwise.
 
 use crate::causes::{CauseSheet, RivalSheet};
+use crate::kinds::named;
 use crate::scene::Scene;
+use crate::sheet::spot_at;
 use std::alloc::{AllocError, Global};
 use std::io;
 use yambiguity::answer::Answer;
 use yexplain::reads::{Made, grammar_of};
-use yexplain::text::{Name, Names, RuleText};
+use yexplain::text::{Names, RuleText};
 use yfiles::diagnostic::{Diagnostic, Diagnostics, Note, Severity};
 use yfiles::output::Output;
-use yfiles::place::Spot;
 use ymends::mending::Mended;
 use ymends::words::MendText;
 use yreports::blocks::{Block, category_of};
 use yreports::lost::put_losses;
 use yreports::offer::Offer;
+use yreports::splitting::Split;
 use ysearch::finding::Finding;
 use ysearch::groups::{Conflicts, Group, Kind};
 
@@ -86,8 +88,7 @@ fn rival_note(alloc: Global, rival: &RivalSheet) -> Made<Note> {
     out.number(rival.rule);
     out.put("  ");
     out.put(&rival.text);
-    let column = rival.column;
-    let spot = rival.line.map(|line| Spot { line, column });
+    let spot = spot_at(rival.line, rival.column);
     let text = out.into_bytes()?;
     Ok(Note { spot, text })
 }
@@ -187,7 +188,7 @@ impl Scene<'_> {
         block: &Block,
         cause: &CauseSheet,
         (finding, offer): (Option<&Finding>, Offer),
-        mended: Option<&Mended>,
+        (mended, split): (Option<&Mended>, Option<Split>),
     ) -> io::Result<Diagnostic> {
         let mut one = self.head((&block.first.kind, block.first.group), &cause.tokens)?;
         if one.severity == Severity::Note {
@@ -201,12 +202,15 @@ impl Scene<'_> {
         for reason in offer.reasons() {
             one.help(Vec::from_slice(self.alloc, reason.as_bytes())?)?;
         }
+        let mut text = Vec::new(self.alloc);
+        if let Some(split) = split {
+            split.put(&mut text, grammar_of(self.tables), self.shown.lines)?;
+        }
         if let Some(mended) = mended {
-            let mut text = Vec::new(self.alloc);
             let (words, idioms) = (self.mend_text(), self.sought.idioms.as_slice());
             words.put(&mut text, idioms, mended)?;
-            help_lines(self.alloc, &mut one, &text)?;
         }
+        help_lines(self.alloc, &mut one, &text)?;
         for class in &block.classes {
             let (true, Some(entry)) = (offer.has_hints(), class.entries.first()) else {
                 continue;
@@ -232,20 +236,45 @@ impl Scene<'_> {
                 Some(answers) => answers,
                 None => &[],
             };
-            let mut offer = finding.map_or(Offer::Hints, |finding| Offer::of(finding, answers));
+            let mut offer = match finding {
+                Some(finding) => Offer::of(finding, answers),
+                None => Offer::Hints,
+            };
             let mended = self.sought.mended.get(place);
+            let split = self.sought.splits.get(place).copied().flatten();
             if let Some(mended) = mended {
                 offer = offer.beside(mended);
             }
-            let cause = self.cause(block, answers, (offer, mended))?;
-            told.add(self.told(block, &cause, (finding, offer), mended)?)?;
+            let cause = self.cause(block, answers, (offer, mended, split))?;
+            told.add(self.told(block, &cause, (finding, offer), (mended, split))?)?;
             causes.push(cause).map_err(AllocError::from)?;
         }
+        self.tell_rest(told, found)?;
+        Ok(causes)
+    }
+
+    /// Tells the kinds that stand in no cause since there are too many.
+    fn tell_rest(self, told: &mut Diagnostics, found: &Conflicts) -> io::Result<()> {
+        let (alloc, blocks) = (self.alloc, &self.sought.blocks);
         for (kind, group) in found.groups.iter().skip(blocks.kinds) {
-            let name = Name(grammar_of(self.tables), kind.token);
-            let tokens = vec![in alloc; format!(in alloc; "{name}")?]?;
+            let tokens = vec![in alloc; named(alloc, grammar_of(self.tables), kind.token)?]?;
             told.add(self.head((kind, *group), &tokens)?)?;
         }
-        Ok(causes)
+        Ok(())
+    }
+
+    /// Tells all causes where they stand, without what explains them.
+    pub fn tell_brief(self, told: &mut Diagnostics, found: &Conflicts) -> io::Result<()> {
+        for block in &self.sought.blocks.list {
+            let mut tokens = Vec::new(self.alloc);
+            for class in &block.classes {
+                for entry in &class.entries {
+                    let token = named(self.alloc, grammar_of(self.tables), entry.kind.token)?;
+                    tokens.push(token).map_err(AllocError::from)?;
+                }
+            }
+            told.add(self.head((&block.first.kind, block.first.group), &tokens)?)?;
+        }
+        self.tell_rest(told, found)
     }
 }

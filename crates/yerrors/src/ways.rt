@@ -7,11 +7,10 @@ use yexplain::reads::{Made, action_of, body_of, goto_of, items_of, next_of};
 use ylalr::{Automaton, ERROR, Item};
 use ysearch::moves::Moves;
 use ysearch::shortest::Shortest;
-use ysymbols::{Grammar, Sym};
+use ysymbols::{Grammar, Sym, let_go};
 use ytables::{Action, Tables};
 
 /// The gotos of an automaton by number, those of a state side by side.
-#[derive(Drop)]
 pub struct Gotos {
     /// The state and the nonterminal of each.
     pairs: IndexSet<(usize, Sym)>,
@@ -21,6 +20,13 @@ pub struct Gotos {
     starts: Vec<usize>,
     /// The items of the state that have their dot before the nonterminal.
     items: Vec<Vec<Item>>,
+}
+
+impl Drop for Gotos {
+    // A call in each owner, which keeps their proofs short.
+    fn drop(self) {
+        let_go!(self: Gotos { pairs, targets, starts, items });
+    }
 }
 
 /// Tables with their ways.

@@ -67,7 +67,9 @@ impl AmbiguityText<'_> {
             }
             Choice::Shift => page.put("  by the shift:"),
             Choice::Reduce(rule) => {
-                let _ = write!(page, "  by {}:", Numbered(self.lines, rule));
+                page.put("  by ");
+                page.show(Numbered(self.lines, rule));
+                page.put(":");
             }
         }
     }
@@ -77,8 +79,11 @@ impl AmbiguityText<'_> {
         let (tokens, dot) = (sentence.tokens.as_slice(), sentence.dot);
         let before = Names(self.grammar, tokens.get(..dot).unwrap_or(tokens));
         let after = Names(self.grammar, tokens.get(dot..).unwrap_or(&[]));
-        let dot = DOT;
-        let _ = writeln!(page, "{before} {dot}{after}");
+        page.show(before);
+        page.put(" ");
+        page.put(DOT);
+        page.show(after);
+        page.end();
     }
 
     /// Writes where the tables refuse a sentence, where they do: what is taken loses it.
@@ -88,7 +93,9 @@ impl AmbiguityText<'_> {
                 page.line("    The tables refuse it at its end.");
             }
             Some(place) => {
-                let _ = writeln!(page, "    The tables refuse it at token {place}.");
+                page.put("    The tables refuse it at token ");
+                page.number(place);
+                page.line(".");
             }
             None => {}
         }
@@ -106,7 +113,7 @@ impl AmbiguityText<'_> {
             page.put(DOT);
             page.put(" ");
         }
-        let _ = write!(page, "{}", Name(self.grammar, symbol));
+        page.show(Name(self.grammar, symbol));
         drawn.leaves = drawn.leaves.saturating_add(1);
         drawn.line = Some(level);
         if drawn.leaves == drawn.dot {
@@ -119,9 +126,10 @@ impl AmbiguityText<'_> {
     fn put_root<W: Write>(self, page: &mut Page<W>, drawn: &mut Drawn, level: usize, node: Node) {
         drawn.end_line(page);
         begin(page, level);
-        let _ = write!(page, "{}", Name(self.grammar, node.symbol));
+        page.show(Name(self.grammar, node.symbol));
         if let Some(rule) = node.rule {
-            let _ = write!(page, "  rule {rule}");
+            page.put("  rule ");
+            page.number(rule);
         }
         page.end();
         drawn.line = None;

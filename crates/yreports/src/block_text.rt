@@ -74,7 +74,8 @@ impl BlockText<'_> {
                 page.end();
                 page.spaces(INDENT - 1);
             }
-            let _ = write!(page, " {}", Name(grammar, token));
+            page.put(" ");
+            page.show(Name(grammar, token));
         }
         page.end();
     }
@@ -119,7 +120,9 @@ impl BlockText<'_> {
         let entry = block.first;
         page.end();
         put_front(page, self.path, entry.kind.spot(self.lines));
-        let _ = write!(page, "conflict {}: ", entry.number.saturating_add(1));
+        page.put("conflict ");
+        page.number(entry.number.saturating_add(1));
+        page.put(": ");
         let _ = put_cell(page, entry.cell(self.tables, self.lines));
         self.put_reasons(page, block);
     }
@@ -142,21 +145,26 @@ impl BlockText<'_> {
     pub fn put_as<W: Write>(self, page: &mut Page<W>, block: &Block, number: usize) {
         let grammar = grammar_of(self.tables);
         put_front(page, self.path, block.first.kind.spot(self.lines));
-        let count = block.classes.iter().fold(0usize, |sum, class| {
-            sum.saturating_add(class.entries.len())
-        });
+        let mut count: usize = 0;
+        for class in &block.classes {
+            count = count.saturating_add(class.entries.len());
+        }
         let (mut ranges, mut last) = (Ranges::begin(page, count), None);
         for _ in 0..count {
             last = number_after(block, last);
             ranges.add(page, last.unwrap_or(0));
         }
         ranges.end(page);
-        let (state, number) = (block.first.group.state, number.saturating_add(1));
-        let _ = write!(page, " as conflict {number}: state {state} on");
+        page.put(" as conflict ");
+        page.number(number.saturating_add(1));
+        page.put(": state ");
+        page.number(block.first.group.state);
+        page.put(" on");
         let mut left = MOST_NAMED;
         for class in &block.classes {
             for entry in class.entries.iter().take(left) {
-                let _ = write!(page, " {}", Name(grammar, entry.kind.token));
+                page.put(" ");
+                page.show(Name(grammar, entry.kind.token));
             }
             left = left.saturating_sub(class.entries.len());
         }

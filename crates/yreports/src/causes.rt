@@ -60,6 +60,31 @@ impl Drop for Causes {
 }
 
 impl Causes {
+    /// Counts the conflicts between each two rules in cells that can't be shifted.
+    fn count_pairs(&mut self, found: &Conflicts) -> Made<()> {
+        for (kind, group) in &found.groups {
+            let Some(taken) = kind.taken() else {
+                continue;
+            };
+            for rule in kind.others() {
+                let before = self.pairs.get(&(taken, *rule)).copied().unwrap_or(0);
+                let all = before.saturating_add(group.states);
+                self.pairs.insert((taken, *rule), all)?;
+            }
+        }
+        Ok(())
+    }
+
+    /// Finds the rules of the first pairs that others cover.
+    fn cover(&mut self, alloc: Global, tables: &Tables, lines: &Lines) -> Made<()> {
+        for (pair, _) in self.pairs.iter().take(MOST_COVERED) {
+            if let Some(covered) = covered_of(alloc, tables, lines, *pair, self.all)? {
+                self.covered.push(covered)?;
+            }
+        }
+        Ok(())
+    }
+
     /// The cause of a kind of conflict by its number, from 0 on: a change that settles it, or the two
     /// rules between which it is.
     pub fn of(&self, number: usize, kind: &Kind) -> Option<usize> {
@@ -208,16 +233,11 @@ fn push_own(
 }
 
 impl Seeker<'_> {
-    /// What is marked with what a change gives precedences to.
-    fn with(&self, change: &Change) -> Made<Marks> {
-        self.marks.with(self.alloc, &change.tokens, change.rule)
-    }
-
     /// The change that leaves the fewest conflicts, and how many; the first of several.
     fn best(&self, changes: &[Change]) -> Made<Option<(usize, usize)>> {
         let mut best: Option<(usize, usize)> = None;
         for (place, change) in changes.iter().enumerate() {
-            let marks = self.with(change)?;
+            let marks = self.marks.with(self.alloc, &change.tokens, change.rule)?;
             let left = counted(self.grammar, self.lines, &marks, self.cells);
             if best.is_none_or(|(_, least)| left < least) {
                 best = Some((place, left));
@@ -251,7 +271,7 @@ impl Seeker<'_> {
             let mut change = changes.remove(place);
             change.settles = left.saturating_sub(less);
             let before = self.settled()?;
-            self.marks = self.with(&change)?;
+            self.marks = self.marks.with(self.alloc, &change.tokens, change.rule)?;
             for (number, is_settled) in self.settled()?.iter().enumerate() {
                 if *is_settled && before.get(number) == Some(&false) {
                     change.kinds.push(number)?;
@@ -262,38 +282,6 @@ impl Seeker<'_> {
         }
         Ok(chosen)
     }
-}
-
-/// How many conflicts are between each two rules in cells that can't be shifted.
-fn pairs_of(alloc: Global, found: &Conflicts) -> Made<IndexMap<(usize, usize), usize>> {
-    let mut pairs: IndexMap<(usize, usize), usize> = IndexMap::new(alloc);
-    for (kind, group) in &found.groups {
-        let Some(taken) = kind.taken() else {
-            continue;
-        };
-        for rule in kind.others() {
-            let before = pairs.get(&(taken, *rule)).copied().unwrap_or(0);
-            pairs.insert((taken, *rule), before.saturating_add(group.states))?;
-        }
-    }
-    Ok(pairs)
-}
-
-/// The rules of the first pairs that others cover.
-fn all_covered(
-    alloc: Global,
-    tables: &Tables,
-    lines: &Lines,
-    pairs: &IndexMap<(usize, usize), usize>,
-    all: usize,
-) -> Made<Vec<Covered>> {
-    let mut found = Vec::new(alloc);
-    for (pair, _) in pairs.iter().take(MOST_COVERED) {
-        if let Some(covered) = covered_of(alloc, tables, lines, *pair, all)? {
-            found.push(covered)?;
-        }
-    }
-    Ok(found)
 }
 
 /// Marks of the rules whose conflicts come of an idiom, which precedences don't mend.
@@ -341,12 +329,13 @@ pub fn causes_of(
         marks,
     };
     let changes = seeker.choose(changes, all)?;
-    let pairs = pairs_of(alloc, found)?;
-    let covered = all_covered(alloc, tables, lines, &pairs, all)?;
-    Ok(Some(Causes {
+    let mut causes = Causes {
         all,
         changes,
-        pairs,
-        covered,
-    }))
+        pairs: IndexMap::new(alloc),
+        covered: Vec::new(alloc),
+    };
+    causes.count_pairs(found)?;
+    causes.cover(alloc, tables, lines)?;
+    Ok(Some(causes))
 }

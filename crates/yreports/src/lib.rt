@@ -26,7 +26,7 @@ mod numbers;
 pub mod offer;
 pub mod report;
 mod short;
-mod splitting;
+pub mod splitting;
 mod tried;
 mod unused;
 pub mod warnings;

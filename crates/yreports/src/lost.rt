@@ -20,6 +20,7 @@ use ymends::rewriting::Rewriting;
 use ysearch::search::Finder;
 use ysymbols::{Grammar, Sym};
 use ytables::Tables;
+use yview::page::Page;
 
 /// The most blocks of conflicts to which longer sentences come, and how many of their conflicts'
 /// rules are looked at.
@@ -238,37 +239,62 @@ pub fn try_choices(alloc: Global, tables: &Tables, lines: &Lines, blocks: &mut B
     Ok(())
 }
 
+/// Writes on which sentences choices were tried.
+fn put_tried<W: Write>(page: &mut Page<W>, first: &Loss) {
+    if first.short == 0 {
+        page.put("Tried on longer sentences (");
+        page.number(first.longer);
+        page.put(")");
+        return;
+    }
+    page.put("Tried on all sentences of up to ");
+    page.number(first.most);
+    page.put(" tokens (");
+    page.number(first.short);
+    page.put(")");
+    if first.longer > 0 {
+        page.put(", and on ");
+        page.count(first.longer, "longer one", "longer ones");
+    }
+}
+
+/// Writes which choice it is, and how many sentences it loses.
+fn put_loss<W: Write>(page: &mut Page<W>, grammar: &Grammar, loss: &Loss) {
+    match (loss.rule, loss.deed) {
+        (Some(rule), _) => {
+            page.put(" rule ");
+            page.number(rule);
+            page.put(" in front loses ");
+        }
+        (None, deed) => {
+            page.put(match deed {
+                Deed::Shift => " the shift by ",
+                Deed::Reduce => " the reduction by ",
+            });
+            page.put(loss.word);
+            page.put(" loses ");
+        }
+    }
+    if loss.lost == 0 {
+        page.put("none");
+        return;
+    }
+    page.number(loss.lost);
+    page.put(", such as");
+    page.show(Names(grammar, &loss.first));
+}
+
 /// Writes what came of choices on sentences.
 pub fn put_losses<W: Write>(out: &mut W, grammar: &Grammar, losses: &[Loss]) -> io::Result<()> {
     let Some(first) = losses.first() else {
         return Ok(());
     };
-    let (short, most, longer) = (first.short, first.most, first.longer);
-    let ones = if longer == 1 { "one" } else { "ones" };
-    match (short, longer) {
-        (0, _) => write!(out, "Tried on longer sentences ({longer})")?,
-        (_, 0) => write!(
-            out,
-            "Tried on all sentences of up to {most} tokens ({short})"
-        )?,
-        _ => write!(
-            out,
-            "Tried on all sentences of up to {most} tokens ({short}), and on {longer} longer {ones}"
-        )?,
+    let mut page = Page::new(&mut *out, false);
+    put_tried(&mut page, first);
+    for (number, loss) in losses.iter().enumerate() {
+        page.put(if number == 0 { ":" } else { ";" });
+        put_loss(&mut page, grammar, loss);
     }
-    let mut mark = ':';
-    for loss in losses {
-        let word = loss.word;
-        match (loss.rule, loss.deed) {
-            (Some(rule), _) => write!(out, "{mark} rule {rule} in front loses ")?,
-            (None, Deed::Shift) => write!(out, "{mark} the shift by {word} loses ")?,
-            (None, Deed::Reduce) => write!(out, "{mark} the reduction by {word} loses ")?,
-        }
-        match loss.lost {
-            0 => write!(out, "none")?,
-            lost => write!(out, "{lost}, such as{}", Names(grammar, &loss.first))?,
-        }
-        mark = ';';
-    }
-    writeln!(out, ".")
+    page.line(".");
+    page.checked()
 }

@@ -35,9 +35,11 @@ impl Ranges {
     fn put<W: Write>(&mut self, page: &mut Page<W>) {
         let (front, first, last) = (self.front, self.first, self.last);
         if first > 0 && self.count < MOST_RANGES {
-            let _ = write!(page, "{front}{first}");
+            page.put(front);
+            page.number(first);
             if last > first {
-                let _ = write!(page, " to {last}");
+                page.put(" to ");
+                page.number(last);
             }
         }
         if first > 0 {

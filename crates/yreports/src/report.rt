@@ -11,7 +11,7 @@ use crate::causes::{Causes, causes_of};
 use crate::leading::put_leading;
 use crate::lost::try_choices;
 use crate::offer::Offer;
-use crate::splitting::{MOST_SPLITS, split_of};
+use crate::splitting::Splitter;
 use crate::warnings::warnings_of;
 use std::alloc::Global;
 use std::io::{self, Write};
@@ -72,7 +72,7 @@ struct Report<'a, W, F> {
     lines: &'a Lines,
     folder: Folder<'a, F>,
     /// For how many more conflicts copies of nonterminals are tried.
-    splits: usize,
+    splits: Splitter,
 }
 
 /// The causes of the blocks that were told, each with the number of its first conflict.
@@ -125,11 +125,6 @@ fn tree_text<'t>(grammar: &'t Grammar, lines: &'t Lines, trees: &'t Trees) -> Am
         lines,
         trees,
     }
-}
-
-/// What changes of rules are written with.
-fn mend_text<'t>(grammar: &'t Grammar, lines: &'t Lines) -> MendText<'t> {
-    MendText { grammar, lines }
 }
 
 /// Whether a token can be shifted in a state by a rule that begins with its own left side, and has
@@ -237,7 +232,8 @@ impl<W: Write, F: Files + AllocGlobal + Clone + Drop> Report<'_, W, F> {
         put_answers(self.alloc, self.page, text, &answers, mender.bound())?;
         let text = block_text(self.path, lines, tables, offer);
         text.put_offer(self.page);
-        mend_text(grammar_of(tables), self.lines).put(self.page, &mender.idioms, &mended)?;
+        let (grammar, lines) = (grammar_of(tables), self.lines);
+        MendText { grammar, lines }.put(self.page, &mender.idioms, &mended)?;
         text.put_further(self.page, block);
         Ok(())
     }
@@ -292,11 +288,12 @@ impl<W: Write, F: Files + AllocGlobal + Clone + Drop> Report<'_, W, F> {
             lists: finding.lists.len(),
         };
         text.put_merged(self.page, finding);
-        if is_merged(finding) && self.splits > 0 {
-            self.splits = self.splits.saturating_sub(1);
-            if let Some(split) = split_of(self.alloc, tables, self.lines, &entry.kind)? {
-                split.put(self.page, grammar_of(tables), self.lines)?;
-            }
+        let (alloc, lines) = (self.alloc, self.lines);
+        if let Some(split) = self
+            .splits
+            .split(alloc, (tables, lines), &entry.kind, finding)?
+        {
+            split.put(self.page, grammar_of(tables), lines)?;
         }
         for (part, list) in finding.lists.iter().enumerate() {
             text.put_list(self.page, list);
@@ -349,7 +346,7 @@ fn put_lists<'a, W: Write, F: Files + AllocGlobal + Clone + Drop>(
         path: asked.grammar,
         lines,
         folder,
-        splits: MOST_SPLITS,
+        splits: Splitter::new(),
     };
     let mut causes = report.put_counted(session.tables(), &found)?;
     report.folder.clear()?;

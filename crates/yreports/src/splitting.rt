@@ -5,12 +5,15 @@ use std::io::{self, Write};
 use yexplain::lines::{Lines, is_inner};
 use yexplain::reads::{Made, body_of, grammar_of, left_of};
 use yexplain::text::{Name, Numbered};
+use ylists::list_text::is_merged;
 use ymends::changed::conflicts_after;
 use ymends::changed_text::Change;
 use ymends::words::are_left;
+use ysearch::finding::Finding;
 use ysearch::groups::Kind;
 use ysymbols::{Grammar, Sym};
 use ytables::Tables;
+use yview::page::Page;
 
 /// The most copies that are tried for a conflict.
 const MOST_COPIES: usize = 12;
@@ -19,19 +22,19 @@ const MOST_COPIES: usize = 12;
 const MOST_STATES: usize = 800;
 
 /// The most conflicts of a report for which copies are tried.
-pub const MOST_SPLITS: usize = 2;
+const MOST_SPLITS: usize = 2;
 
 /// A copy of a nonterminal for the body of a rule.
 #[derive(Clone, Copy, Drop)]
 pub struct Split {
     /// The nonterminal.
-    symbol: Sym,
+    pub symbol: Sym,
     /// The rule.
-    rule: usize,
+    pub rule: usize,
     /// How many conflicts are left with it.
-    left: usize,
+    pub left: usize,
     /// How many there are.
-    all: usize,
+    pub all: usize,
 }
 
 /// The rules whose bodies have a nonterminal, where there are several.
@@ -67,7 +70,7 @@ fn copies_of(alloc: Global, grammar: &Grammar, rules: &[usize]) -> Made<Vec<(Sym
 
 /// The copy that leaves the fewest conflicts, where one leaves fewer than there are: of the left
 /// sides of the rules of a kind of conflict, for the bodies that have them.
-pub fn split_of(alloc: Global, tables: &Tables, lines: &Lines, kind: &Kind) -> Made<Option<Split>> {
+fn split_of(alloc: Global, tables: &Tables, lines: &Lines, kind: &Kind) -> Made<Option<Split>> {
     let (grammar, counts) = (grammar_of(tables), tables.conflicts());
     let all = counts.shift_reduce.saturating_add(counts.reduce_reduce) as usize;
     if tables.automaton().states() > MOST_STATES {
@@ -93,15 +96,50 @@ pub fn split_of(alloc: Global, tables: &Tables, lines: &Lines, kind: &Kind) -> M
     Ok(best)
 }
 
+/// What tries copies for the first conflicts of merged states.
+#[derive(Clone, Copy, Drop)]
+pub struct Splitter {
+    /// For how many conflicts more.
+    tries: usize,
+}
+
+impl Splitter {
+    /// One that tried none.
+    pub fn new() -> Splitter {
+        Splitter { tries: MOST_SPLITS }
+    }
+
+    /// The copy for a kind of conflict, where this was found for it.
+    pub fn split(
+        &mut self,
+        alloc: Global,
+        (tables, lines): (&Tables, &Lines),
+        kind: &Kind,
+        finding: &Finding,
+    ) -> Made<Option<Split>> {
+        if self.tries == 0 || !is_merged(finding) {
+            return Ok(None);
+        }
+        self.tries = self.tries.saturating_sub(1);
+        split_of(alloc, tables, lines, kind)
+    }
+}
+
 impl Split {
     /// Writes how states are split.
     pub fn put<W: Write>(self, out: &mut W, grammar: &Grammar, lines: &Lines) -> io::Result<()> {
-        let (name, rule) = (Name(grammar, self.symbol), Numbered(lines, self.rule));
-        let (left, all) = (self.left, self.all);
-        write!(
-            out,
-            "  With a copy of {name}, which has the same rules, in {rule} "
-        )?;
-        writeln!(out, "{left} of {all} {} left.", are_left(left, all))
+        let mut page = Page::new(&mut *out, false);
+        page.put("  With a copy of ");
+        page.show(Name(grammar, self.symbol));
+        page.put(", which has the same rules, in ");
+        page.show(Numbered(lines, self.rule));
+        page.put(" ");
+        page.number(self.left);
+        page.put(" of ");
+        page.number(self.all);
+        page.put(" ");
+        page.put(are_left(self.left, self.all));
+        page.line(" left.");
+        page.checked()
     }
 }

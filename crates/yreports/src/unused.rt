@@ -9,7 +9,7 @@ use yexplain::reads::{
 };
 use ylalr::token_count;
 use yprovenance::{Rival, settle};
-use ysymbols::{Grammar, Sym};
+use ysymbols::{Grammar, Sym, let_go};
 use ytables::{Action, Class, Tables, standing_between};
 
 /// The most steps of all trials: one for each rule of a cell.
@@ -19,7 +19,6 @@ const MOST_STEPS: usize = 2_000_000;
 ///
 /// Where a precedence is never compared with another one, a conflict stays one without it. Only a
 /// `%prec` can do something there: it can hide the precedence that its rule would have without it.
-#[derive(Drop)]
 pub struct Done {
     alloc: Global,
     /// For each rule, whether it is reduced anywhere.
@@ -36,6 +35,13 @@ pub struct Done {
     steps: usize,
     /// Where the complete items of a state stand among its items.
     ready: Vec<usize>,
+}
+
+impl Drop for Done {
+    // A call in each owner, which keeps their proofs short.
+    fn drop(self) {
+        let_go!(self: Done { alloc, reduced, by_token, by_rule, all_tried, rivals, steps, ready });
+    }
 }
 
 impl Done {

@@ -2,19 +2,19 @@
 
 use crate::unused::Done;
 use std::alloc::Global;
-use std::io::{self, Write};
+use std::io;
 use yexplain::lines::{Lines, Mention, Spot};
 use yexplain::reads::{Made, grammar_of, is_reachable, left_of, level_of, set};
 use yexplain::text::{Name, RuleText};
 use yfiles::category::Category;
 use yfiles::diagnostic::{Diagnostic, Diagnostics, Severity};
+use yfiles::output::Output;
 use ylalr::ERROR;
-use ysymbols::{Grammar, Sym};
+use ysymbols::{Grammar, Sym, let_go};
 use ysyntax::Role;
 use ytables::Tables;
 
 /// How symbols are named in a file.
-#[derive(Drop)]
 struct Named {
     /// Where each symbol is named first.
     first: Vec<Option<Spot>>,
@@ -23,6 +23,13 @@ struct Named {
     /// Which are named in a rule, and which in a body.
     used: Vec<bool>,
     in_body: Vec<bool>,
+}
+
+impl Drop for Named {
+    // A call in each owner, which keeps their proofs short.
+    fn drop(self) {
+        let_go!(self: Named { first, levelled, used, in_body });
+    }
 }
 
 /// What seeks warnings.
@@ -79,12 +86,13 @@ fn note(spots: &mut [Option<Spot>], mention: Mention) {
 }
 
 impl Warner<'_> {
-    /// A warning of a category.
-    fn begin(&self, spot: Option<Spot>, category: Category) -> Made<Diagnostic> {
+    /// Adds a warning of a category.
+    fn add(&mut self, spot: Option<Spot>, category: Category, message: Output) -> io::Result<()> {
         let mut one = Diagnostic::new(self.alloc, Some(self.path), spot)?;
         one.severity = Severity::Warning;
         one.category = Some(category);
-        Ok(one)
+        one.message = message.into_bytes()?;
+        Ok(self.found.add(one)?)
     }
 
     /// Adds a warning of a category about a symbol between two texts.
@@ -94,9 +102,11 @@ impl Warner<'_> {
         category: Category,
         (before, symbol, after): (&str, Sym, &str),
     ) -> io::Result<()> {
-        let (mut one, name) = (self.begin(spot, category)?, Name(self.grammar, symbol));
-        write!(one.message, "{before}{name}{after}")?;
-        Ok(self.found.add(one)?)
+        let mut message = Output::new(self.alloc);
+        message.put(before);
+        message.show(Name(self.grammar, symbol));
+        message.put(after);
+        self.add(spot, category, message)
     }
 
     /// Rules of symbols that can be reached, which are never reduced.
@@ -104,13 +114,12 @@ impl Warner<'_> {
         for rule in 1..self.grammar.rules() {
             let is_done = done.reduced.get(rule).copied().unwrap_or(true);
             if !is_done && self.is_live(rule) {
-                let shown = RuleText(self.grammar, rule);
-                let mut one = self.begin(self.lines.spot(rule), Category::Other)?;
-                write!(
-                    one.message,
-                    "rule {rule} is useless in the parser due to conflicts:  {shown}"
-                )?;
-                self.found.add(one)?;
+                let mut message = Output::new(self.alloc);
+                message.put("rule ");
+                message.number(rule);
+                message.put(" is useless in the parser due to conflicts:  ");
+                message.show(RuleText(self.grammar, rule));
+                self.add(self.lines.spot(rule), Category::Other, message)?;
             }
         }
         Ok(())
@@ -140,13 +149,16 @@ impl Warner<'_> {
         for rule in 1..self.grammar.rules() {
             let settles = done.by_rule.get(rule).copied().unwrap_or(true);
             if !settles && self.lines.prec(rule).is_some() && self.is_live(rule) {
-                let mut one = self.begin(self.lines.spot(rule), Category::Precedence)?;
-                if done.all_tried {
-                    write!(one.message, "useless %prec in rule {rule}")?;
+                let (front, rest) = if done.all_tried {
+                    ("useless %prec in rule ", "")
                 } else {
-                    write!(one.message, "%prec in rule {rule} may be useless")?;
-                }
-                self.found.add(one)?;
+                    ("%prec in rule ", " may be useless")
+                };
+                let mut message = Output::new(self.alloc);
+                message.put(front);
+                message.number(rule);
+                message.put(rest);
+                self.add(self.lines.spot(rule), Category::Precedence, message)?;
             }
         }
         Ok(())

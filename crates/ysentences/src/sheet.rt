@@ -18,6 +18,7 @@ use ylists::saving::Folder;
 use yparse::Tokens;
 use ysearch::search::ALL_STEPS;
 use ysymbols::{Grammar, Sym};
+use yview::page::Page;
 
 /// The most elements that are named which a sentence is the first to use.
 const MOST_NAMED: usize = 20;
@@ -85,12 +86,13 @@ fn put_shown<W: Write>(
 
 /// Writes tokens in a line.
 fn put_tokens<W: Write>(out: &mut W, grammar: &Grammar, tokens: &[Sym]) -> io::Result<()> {
+    let mut page = Page::new(&mut *out, false);
     for (index, token) in tokens.iter().enumerate() {
-        let front = if index > 0 { " " } else { "" };
-        let name = Name(grammar, *token);
-        write!(out, "{front}{name}")?;
+        page.put(if index > 0 { " " } else { "" });
+        page.show(Name(grammar, *token));
     }
-    writeln!(out)
+    page.end();
+    page.checked()
 }
 
 /// Writes how a sentence is changed, as the beginning of a line.
@@ -100,24 +102,32 @@ fn put_change<W: Write>(
     count: usize,
     change: Change,
 ) -> io::Result<()> {
+    let mut page = Page::new(&mut *out, false);
     match change {
         Change::LeaveOut(before) => {
-            let number = before.saturating_add(1);
-            write!(out, "# token {number} left out: ")
+            page.put("# token ");
+            page.number(before.saturating_add(1));
+            page.put(" left out");
         }
         Change::Replace(before, token) => {
-            let (number, name) = (before.saturating_add(1), Name(grammar, token));
-            write!(out, "# token {number} changed to {name}: ")
+            page.put("# token ");
+            page.number(before.saturating_add(1));
+            page.put(" changed to ");
+            page.show(Name(grammar, token));
         }
-        Change::PutIn(before, token) if before < count => {
-            let (number, name) = (before.saturating_add(1), Name(grammar, token));
-            write!(out, "# {name} put in before token {number}: ")
-        }
-        Change::PutIn(_, token) => {
-            let name = Name(grammar, token);
-            write!(out, "# {name} put in at the end: ")
+        Change::PutIn(before, token) => {
+            page.put("# ");
+            page.show(Name(grammar, token));
+            if before < count {
+                page.put(" put in before token ");
+                page.number(before.saturating_add(1));
+            } else {
+                page.put(" put in at the end");
+            }
         }
     }
+    page.put(": ");
+    page.checked()
 }
 
 impl<W: Write, F: Files + AllocGlobal + Clone + Drop> Sheet<'_, W, F> {
@@ -251,20 +261,26 @@ impl<W: Write, F: Files + AllocGlobal + Clone + Drop> Sheet<'_, W, F> {
 
     /// Writes an element that no sentence uses, and why.
     pub fn put_unused(&mut self, kind: Kind, element: usize, missing: Missing) -> io::Result<()> {
-        write!(self.out, "# not found")?;
+        let mut page = Page::new(&mut *self.out, false);
+        page.put("# not found");
         match missing {
-            Missing::Late => write!(self.out, " within {ALL_STEPS} steps: ")?,
-            Missing::Astray => write!(
-                self.out,
-                ", as the parse over each list that was tried goes another way: "
-            )?,
-            Missing::Long => write!(
-                self.out,
-                ", as the shortest sentence has error, or more than {MOST_TOKENS} tokens: "
-            )?,
-            Missing::Unreachable => write!(self.out, ", as its left side can't be reached: ")?,
-            Missing::Lost => write!(self.out, ", as no state reduces by it: ")?,
+            Missing::Late => {
+                page.put(" within ");
+                page.show(ALL_STEPS);
+                page.put(" steps: ");
+            }
+            Missing::Astray => {
+                page.put(", as the parse over each list that was tried goes another way: ");
+            }
+            Missing::Long => {
+                page.put(", as the shortest sentence has error, or more than ");
+                page.show(MOST_TOKENS);
+                page.put(" tokens: ");
+            }
+            Missing::Unreachable => page.put(", as its left side can't be reached: "),
+            Missing::Lost => page.put(", as no state reduces by it: "),
         }
+        page.checked()?;
         self.elements.put_line(self.out, kind, element)
     }
 

@@ -1,0 +1,4 @@
+%token NAME NUM
+%%
+list: | list set ;
+set: NAME '=' NUM ';' | error ';' ;
