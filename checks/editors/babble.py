@@ -135,6 +135,13 @@ def seen(told):
         yield start["line"] + 1, start["character"] + 1, one.get("code"), front
 
 
+def units_before(text, line, column):
+    """How many units of UTF-16 stand before a column of a line, which is counted in bytes."""
+    lines = text.encode().split(b"\n")
+    front = lines[line - 1][:column - 1].decode(errors="replace")
+    return len(front.encode("utf-16-le")) // 2
+
+
 def wanted(program, text, room):
     """The same of `ydebug conflicts`."""
     file = Path(room) / "grammar.y"
@@ -146,7 +153,8 @@ def wanted(program, text, room):
         is_code = code[:1] in "GBK" and code[1:].isdigit()
         text_of = rest if is_code else one["message"]
         code = code if is_code else one["category"]
-        yield one["line"] or 1, one["column"] or 1, code, text_of
+        line, column = one["line"] or 1, one["column"] or 1
+        yield line, units_before(text, line, column) + 1, code, text_of
 
 
 def try_edits(tally, program, rng, count):

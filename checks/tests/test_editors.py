@@ -83,6 +83,11 @@ class Babble(Planted):
         """One that is right passes."""
         self.assertEqual(self.failed("none"), "")
 
+    def test_columns(self):
+        """Columns of bytes become those of editors: é has two bytes, the clef four and two units."""
+        self.assertEqual(babble.units_before("a\né%}lé", 2, 6), 4)
+        self.assertEqual(babble.units_before("\U0001d11ex", 1, 5), 2)
+
     def test_wrong(self):
         """One that dies, says nothing, or grows doesn't."""
         for fault, told in ("dies", "the server"), ("silent", "edit "), ("leaks", "memory"):
