@@ -237,7 +237,7 @@ def refused_in_turn(name, from_there_on, ydebug, library, pool):
 
 
 def main(words):
-    """Refuses allocations of sessions and commands in turn."""
+    """Refuses allocations of sessions and commands one after the other."""
     given, whole = asked(__doc__, words, ("ydebug",)), Counter()
     with tempfile.TemporaryDirectory() as room, ProcessPoolExecutor(os.cpu_count()) as pool:
         library = library_in(room, REFUSED)

@@ -82,7 +82,7 @@ def in_turn(it, device, broken, programs, library):
 
 
 def written(text, device, programs, library):
-    """A text, each of whose writes is disturbed in turn."""
+    """A text, each of whose writes is disturbed once."""
     return in_turn(text.scenario, device, partial(cut, text, device), programs, library)
 
 

@@ -5,7 +5,7 @@
 Every scenario of `ystep` but those that ask for help comes back, byte for byte, from a program in
 C and one in Python over the library; streams that can't be read or written are left to C, since
 Python ends at them by itself. Each call gets every room up to more than it needs, null pointers
-without bytes, and things that it must refuse; each of its allocations is refused in turn; eight
+without bytes, and things that it must refuse; each of its allocations is refused once; eight
 threads call at once. Parses behind handles are compared with sessions over grammars, tokens and
 command lines at random, and the tokens that they expect with those that sessions shift. C runs as
 it is, with the sanitizers of the compiler (CC, or cc), and with valgrind where that is there. The

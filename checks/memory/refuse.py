@@ -135,7 +135,7 @@ def is_uncalled(made, it):
 
 
 def told_of(lines):
-    """The files that lines say something of, in turn; the text of a file stands after blanks."""
+    """The files that lines tell of, one by one; the text of a file stands after blanks."""
     return [line.split(b":")[0] for line in lines if not line.startswith(b" ")]
 
 
@@ -250,7 +250,7 @@ def runs(few, files, programs):
 
 
 def main(words):
-    """Refuses allocations of runs in turn."""
+    """Refuses allocations of runs one after the other."""
     given, whole = asked(__doc__, words, every(), few=False), Counter()
     programs = given.programs
     with tempfile.TemporaryDirectory() as room, ProcessPoolExecutor(os.cpu_count()) as pool:

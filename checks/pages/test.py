@@ -337,7 +337,7 @@ def try_long(count, driver, ydebug, room, shots):
         whole(browser, shots / "part.png")
 
 
-# A hundred steps, back and forward in turn, with the page laid out after each.
+# A hundred steps, back and forward by turns, with the page laid out after each.
 STEPS = """
 for (let step = 0; step < 100; step += 1) {
   const key = step % 2 ? "ArrowRight" : "ArrowLeft";

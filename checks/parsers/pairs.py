@@ -42,7 +42,7 @@ def pairs_of_scenarios():
 
 
 def runs_of(pairs, has_names):
-    """What `yacc`, `ystep` and, where it is there, `ydebug` are given, in turn for each pair."""
+    """What `yacc`, `ystep` and, where it is there, `ydebug` are given, pair by pair."""
     for grammar, tokens in pairs:
         files = {"grammar": grammar, "tokens": tokens}
         yield Scenario(DRIVERS, ["yacc", "grammar"], b"", files, {}, {}, {})

@@ -3,7 +3,7 @@
     bench-classes [--counts] [yacc=PATH] [ycc=PATH] [FILE..]
 
 For a calculator, the grammar of C of checks/data/times/c.y and each FILE, with values of several
-types, by -O2, without a lexer: nanoseconds a token of each parser, the least of many runs in turn,
+types, by -O2, without a lexer: nanoseconds a token of each parser, the least of many runs by turns,
 and how many bytes the code and the tables of each take, that of the library's templates too. A
 token has a number, a nonterminal a text, which is that of the first symbol of a rule or none. With
 `--counts` instructions stand in place of times, as valgrind counts them: they are the same on a

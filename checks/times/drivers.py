@@ -18,7 +18,7 @@ from checks.shared.places import DRIVERS
 from checks.shared.spelling import bare, names_of
 from checks.shared.table_file import table_of
 
-# Both programs run in turn, and the best run of each counts.
+# Both programs run by turns, and the best run of each counts.
 TURNS, BOTH = 10, (["./ours", "numbers", "y.tab"], ["./theirs", "numbers"])
 
 

@@ -3,7 +3,7 @@
     bench-parsers [yacc=PATH] [ycc=PATH] [FILE..]
 
 For a calculator, the grammar of C of checks/data/times/c.y, queries 275, and each FILE: nanoseconds
-a token of each parser, by -O2, without a lexer and without actions, the least of many runs in turn,
+a token of each parser, by -O2, without a lexer and without actions, the least of runs by turns,
 also of those that `ycc` makes under each policy of default reductions, the slowest of which is set
 beside the faster of its peers, and of those with LAC that `ycc` and bison make; and the bytes of
 tables. The tokens are a sentence of 30,000, drawn at random, as far as the
