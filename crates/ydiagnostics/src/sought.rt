@@ -59,9 +59,7 @@ impl Sought {
             idioms: Vec::new(alloc),
         }
     }
-}
 
-impl Sought {
     /// Nothing is sought yet beside the choices for these conflicts.
     fn new(
         alloc: Global,
@@ -72,15 +70,7 @@ impl Sought {
         let mut blocks = blocks_of(alloc, tables, lines, conflicts)?;
         try_hints(alloc, tables, lines, conflicts, &mut blocks)?;
         try_choices(alloc, tables, lines, &mut blocks)?;
-        Ok(Sought {
-            blocks,
-            findings: Vec::new(alloc),
-            answers: Vec::new(alloc),
-            mended: Vec::new(alloc),
-            splits: Vec::new(alloc),
-            found: Ambiguities::new(alloc),
-            idioms: Vec::new(alloc),
-        })
+        Ok(Sought::none(alloc, blocks))
     }
 
     /// Seeks lists for a kind, and where a block begins with it, sentences and changes.
