@@ -2,9 +2,9 @@
 
 use crate::conflict::{Conflict, Conflicts};
 use crate::items::{Dotted, Hosts};
-use indexmap::IndexMap;
 use std::alloc::Global;
 use std::io;
+use yexplain::distinct::Distinct;
 use yexplain::lines::{Lines, Spot};
 use yexplain::reads::{
     Made, body_of, candidates_of, conflicts_of, grammar_of, items_of, name_of, next_of, shift_of,
@@ -26,8 +26,7 @@ struct Pair {
 
 /// The pairs of items that are rivals, in the order of their states.
 struct Pairs {
-    /// Each with the first state that has it.
-    all: IndexMap<Pair, usize>,
+    all: Distinct<Pair>,
 }
 
 impl Drop for Pairs {
@@ -43,16 +42,16 @@ impl Pairs {
         self.all.len() > MOST_FOUND
     }
 
-    /// Adds what an item of a cell is taken before.
-    fn add(&mut self, cell: (usize, Sym), taken: Dotted, others: &[usize]) -> Made<()> {
+    /// Adds what an item is taken before at a token.
+    fn add(&mut self, token: Sym, taken: Dotted, others: &[usize]) -> Made<()> {
         for other in others {
             let pair = Pair {
-                token: cell.1,
+                token,
                 taken,
                 other: *other,
             };
-            if !self.is_full() && !self.all.contains_key(&pair) {
-                self.all.insert(pair, cell.0)?;
+            if !self.is_full() {
+                self.all.add(pair)?;
             }
         }
         Ok(())
@@ -63,7 +62,6 @@ impl Pairs {
     fn add_state(&mut self, alloc: Global, tables: &Tables, state: usize) -> Made<()> {
         let grammar = grammar_of(tables);
         for conflict in conflicts_of(tables, state) {
-            let cell = (state, conflict.token);
             // the rules that don't lose to the shift, where there is one
             let shifts = shift_of(tables, state, conflict.token).is_some();
             let mut rules = Vec::new(alloc);
@@ -75,12 +73,12 @@ impl Pairs {
             if conflict.shift_reduce > 0 {
                 for item in items_of(tables.automaton(), state) {
                     if next_of(grammar, *item) == Some(conflict.token) {
-                        self.add(cell, (item.rule, item.dot), &rules)?;
+                        self.add(conflict.token, (item.rule, item.dot), &rules)?;
                     }
                 }
             } else if let Some((first, others)) = rules.split_first() {
                 let dot = body_of(grammar, *first).len();
-                self.add(cell, (*first, dot), others)?;
+                self.add(conflict.token, (*first, dot), others)?;
             }
         }
         Ok(())
@@ -118,7 +116,7 @@ fn conflict_of(
 /// can be told apart.
 pub fn found_in(alloc: Global, tables: &Tables, lines: &Lines) -> io::Result<Option<Conflicts>> {
     let mut pairs = Pairs {
-        all: IndexMap::new(alloc),
+        all: Distinct::new(alloc),
     };
     for state in 0..tables.automaton().states() {
         pairs.add_state(alloc, tables, state)?;
@@ -128,7 +126,7 @@ pub fn found_in(alloc: Global, tables: &Tables, lines: &Lines) -> io::Result<Opt
     }
     let hosts = Hosts::new(alloc, grammar_of(tables))?;
     let mut found = Conflicts::new(alloc);
-    for (pair, _) in &pairs.all {
+    for pair in pairs.all.all() {
         let conflict = conflict_of(alloc, tables, lines, &hosts, pair)?;
         found.add(alloc, conflict)?;
     }

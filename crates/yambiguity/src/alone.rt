@@ -2,8 +2,8 @@
 
 use crate::choice::{Cell, Choice, rules_in};
 use crate::stacks::{Deed, Stacks};
-use indexmap::IndexSet;
 use std::alloc::Global;
+use yexplain::distinct::Distinct;
 use yexplain::reads::{Made, shift_of};
 use ylalr::{Automaton, END};
 use ysymbols::let_go;
@@ -25,7 +25,7 @@ pub struct Alone {
 /// The stacks that were met, and how each came up: the number of the one before it, and the rule of
 /// the reduction; the first one has none.
 struct Met {
-    stacks: IndexSet<usize>,
+    stacks: Distinct<usize>,
     links: Vec<(usize, usize)>,
 }
 
@@ -39,7 +39,7 @@ impl Drop for Met {
 impl Met {
     /// Adds a stack that wasn't met yet.
     fn add(&mut self, stack: usize, link: (usize, usize)) -> Made<()> {
-        if self.stacks.insert(stack)? {
+        if self.stacks.add(stack)?.1 {
             self.links.push(link)?;
         }
         Ok(())
@@ -88,12 +88,12 @@ fn until_shift(
     cell: Cell,
 ) -> Made<Option<Alone>> {
     let mut met = Met {
-        stacks: IndexSet::new(alloc),
+        stacks: Distinct::new(alloc),
         links: Vec::new(alloc),
     };
     met.add(stack, (0, 0))?;
     for number in 0..MOST_STACKS {
-        let Some(stack) = met.stacks.get_index(number).copied() else {
+        let Some(stack) = met.stacks.at(number) else {
             break;
         };
         let state = stacks.top(stack);

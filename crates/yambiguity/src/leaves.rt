@@ -1,8 +1,8 @@
 //! Trees of shortest sentences, for symbols that are leaves of a form.
 
 use crate::trees::Trees;
-use indexmap::IndexMap;
 use std::alloc::Global;
+use std::collections::HashMap;
 use yexplain::reads::{Made, body_of};
 use ysearch::shortest::Shortest;
 use ysymbols::{Grammar, Sym, let_go};
@@ -16,7 +16,7 @@ const MOST_TAKEN: usize = 100_000;
 /// The trees that are known.
 pub struct Leaves {
     alloc: Global,
-    known: IndexMap<Sym, usize>,
+    known: HashMap<Sym, usize>,
 }
 
 impl Drop for Leaves {
@@ -31,7 +31,7 @@ impl Leaves {
     pub fn new(alloc: Global) -> Leaves {
         Leaves {
             alloc,
-            known: IndexMap::new(alloc),
+            known: HashMap::new(alloc),
         }
     }
 

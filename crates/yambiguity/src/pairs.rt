@@ -3,8 +3,8 @@
 
 use crate::choice::{Cell, Choice, rules_in};
 use crate::stacks::{Deed, Stacks};
-use indexmap::IndexSet;
 use std::alloc::Global;
+use yexplain::distinct::Distinct;
 use yexplain::reads::{Made, items_of, next_of};
 use ylalr::{Automaton, END, ERROR};
 use ysearch::queue::Queue;
@@ -69,7 +69,7 @@ pub struct Joined {
 pub struct Search {
     alloc: Global,
     cell: Cell,
-    pairs: IndexSet<Pair>,
+    pairs: Distinct<Pair>,
     links: Vec<Link>,
     queue: Queue,
     /// How many steps may still be taken: items that are looked at.
@@ -98,7 +98,7 @@ impl Search {
         let mut search = Search {
             alloc,
             cell,
-            pairs: IndexSet::new(alloc),
+            pairs: Distinct::new(alloc),
             links: Vec::new(alloc),
             queue: Queue::new(alloc),
             left: steps,
@@ -130,7 +130,7 @@ impl Search {
     /// A pair waits, where it is new.
     fn put(&mut self, pair: Pair, cost: u64, link: Link) -> Made<()> {
         self.left = self.left.saturating_sub(1);
-        let (number, is_new) = self.pairs.insert_full(pair)?;
+        let (number, is_new) = self.pairs.add(pair)?;
         if is_new {
             self.links.push(link)?;
             self.queue.put(cost, number)?;
@@ -152,7 +152,7 @@ impl Search {
             let Some((cost, number)) = self.queue.take() else {
                 break;
             };
-            let Some(pair) = self.pairs.get_index(number).copied() else {
+            let Some(pair) = self.pairs.at(number) else {
                 break;
             };
             if pair.first == pair.second && pair.stage != Stage::Before {

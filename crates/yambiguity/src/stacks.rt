@@ -1,7 +1,7 @@
 //! Stacks of states as a parse has them, each kept once: equal stacks have one number.
 
-use indexmap::IndexSet;
 use std::alloc::Global;
+use yexplain::distinct::Distinct;
 use yexplain::reads::{Made, body_of, goto_of, left_of};
 use ylalr::Automaton;
 use ysymbols::{Sym, let_go};
@@ -21,7 +21,7 @@ pub enum Deed {
 /// Stacks by their numbers.
 pub struct Stacks {
     /// The top state of each, and the number of what is below it.
-    entries: IndexSet<(usize, usize)>,
+    entries: Distinct<(usize, usize)>,
 }
 
 impl Drop for Stacks {
@@ -40,9 +40,9 @@ impl Stacks {
         way: &[Sym],
     ) -> Made<Option<(Stacks, usize)>> {
         let mut stacks = Stacks {
-            entries: IndexSet::new(alloc),
+            entries: Distinct::new(alloc),
         };
-        stacks.entries.insert((0, BOTTOM))?;
+        stacks.entries.add((0, BOTTOM))?;
         let mut stack = BOTTOM;
         for symbol in way {
             match stacks.shifted(automaton, stack, *symbol)? {
@@ -55,14 +55,14 @@ impl Stacks {
 
     /// The top state of a stack.
     pub fn top(&self, stack: usize) -> usize {
-        self.entries.get_index(stack).map_or(0, |entry| entry.0)
+        self.entries.at(stack).map_or(0, |entry| entry.0)
     }
 
     /// What is left of a stack without so many entries.
     fn below(&self, stack: usize, count: usize) -> usize {
         let mut at = stack;
         for _ in 0..count {
-            at = self.entries.get_index(at).map_or(BOTTOM, |entry| entry.1);
+            at = self.entries.at(at).map_or(BOTTOM, |entry| entry.1);
         }
         at
     }
@@ -93,7 +93,7 @@ impl Stacks {
         let Some(state) = goto_of(automaton, self.top(stack), symbol) else {
             return Ok(None);
         };
-        let (number, _) = self.entries.insert_full((state, stack))?;
+        let (number, _) = self.entries.add((state, stack))?;
         Ok(Some(number))
     }
 

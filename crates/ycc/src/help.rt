@@ -1,6 +1,6 @@
 //! The list of options, as help has it.
 
-use crate::options::{Ask, Has, Known, OPTIONS, Whose};
+use crate::options::{Ask, COUNT, Has, Known, Whose, option_at};
 use crate::words::USAGE;
 use std::alloc::Global;
 use yfiles::output::Output;
@@ -67,7 +67,10 @@ fn put_option(out: &mut Output, known: Known) {
 
 /// Writes the options that are refused, or all others.
 fn put_options(out: &mut Output, are_refused: bool) {
-    for known in OPTIONS {
+    for number in 0..COUNT {
+        let Some(known) = option_at(number) else {
+            break;
+        };
         if matches!(known.4, Ask::Refused(_)) == are_refused {
             put_option(out, known);
         }

@@ -17,6 +17,7 @@ mod classes;
 mod ending;
 mod examples;
 mod faults;
+mod found;
 mod graph;
 mod help;
 mod making;
@@ -99,7 +100,7 @@ fn define<'a>(
 }
 
 /// Does what words ask for with a grammar file; their wishes are taken as if the file had them.
-fn generate(rt: &HostRuntime, given: Given<'_>, file: &File) -> Result<(), Ending> {
+fn generate(rt: &HostRuntime, given: &Given<'_>, file: &File) -> Result<(), Ending> {
     let mut found = read(rt, file)?;
     refuse_others(rt, file, &found.parts)?;
     let options = &mut found.parts.options;
@@ -114,7 +115,7 @@ fn generate(rt: &HostRuntime, given: Given<'_>, file: &File) -> Result<(), Endin
 
 /// What words wish of a grammar file as if it said so. A parser in C++ is one of bison, and so is
 /// one for which words set variables.
-fn wished_of(given: Given<'_>, is_plain: bool) -> Wished {
+fn wished_of(given: &Given<'_>, is_plain: bool) -> Wished {
     let (language, skeleton) = (given.language, given.skeleton);
     let is_cxx = skeleton.or(language) == Some(Language::Cxx);
     Wished {
@@ -125,7 +126,7 @@ fn wished_of(given: Given<'_>, is_plain: bool) -> Wished {
 }
 
 /// Does what words ask for.
-fn obey(rt: &HostRuntime, given: Given<'_>, variables: Vec<u8>) -> Result<(), Ending> {
+fn obey(rt: &HostRuntime, given: &Given<'_>, variables: Vec<u8>) -> Result<(), Ending> {
     let name = given.grammar;
     let bytes = match grammar_bytes(rt, name) {
         Ok(bytes) => bytes,
@@ -187,7 +188,7 @@ fn run(rt: &HostRuntime) -> Result<(), Ending> {
         Ok(Asked::Files(mut wanted)) => {
             let none = Vec::new(rt.alloc());
             let variables = mem::replace(&mut wanted.variables, none);
-            obey(rt, wanted.given, variables)
+            obey(rt, &wanted.given, variables)
         }
         Ok(Asked::Help) => Err(answer(rt, &help_text(rt.alloc()).into_bytes()?)),
         Ok(Asked::Text(text)) => Err(answer(rt, text)),

@@ -34,7 +34,7 @@ fn text_of(alloc: Global, tables: &Tables, is_report: bool) -> Result<Vec<u8>, E
 }
 
 /// What is asked for of the texts.
-fn wishes_of(given: Given<'_>, options: &Options<'_>) -> Wishes {
+fn wishes_of(given: &Given<'_>, options: &Options<'_>) -> Wishes {
     let is_bison = given.bison || options.is_bison;
     Wishes {
         lines: !given.no_lines && !options.no_lines,
@@ -71,7 +71,7 @@ fn add_plain<'a>(
 /// The texts that are wanted.
 fn texts_of<'a>(
     alloc: Global,
-    given: Given<'_>,
+    given: &Given<'_>,
     tables: &Tables,
     skeleton: Skeleton<'a>,
     names: &'a Names,
@@ -103,7 +103,7 @@ fn texts_of<'a>(
 
 /// Adds the graphs that are wanted of a grammar file to texts.
 fn add_graphs<'a>(
-    given: Given<'_>,
+    given: &Given<'_>,
     tables: &Tables,
     skeleton: &Skeleton<'_>,
     names: &'a Names,
@@ -136,7 +136,7 @@ fn add_graphs<'a>(
 
 /// Writes texts to their files, unless one would be written over another that is read or written:
 /// then that is said.
-fn write_all(rt: &HostRuntime, given: Given<'_>, texts: &[Text<'_>]) -> Result<(), Ending> {
+fn write_all(rt: &HostRuntime, given: &Given<'_>, texts: &[Text<'_>]) -> Result<(), Ending> {
     let mut outputs = Vec::new(rt.alloc());
     for text in texts {
         outputs.push(Some(text.path))?;
@@ -165,7 +165,7 @@ fn write_all(rt: &HostRuntime, given: Given<'_>, texts: &[Text<'_>]) -> Result<(
 /// Says whose order and names there are, where that is asked for; messages in C++ are refused.
 fn begin(
     rt: &HostRuntime,
-    given: Given<'_>,
+    given: &Given<'_>,
     file: &File,
     (is_cxx, is_bison): (bool, bool),
 ) -> Result<(), Ending> {
@@ -184,7 +184,7 @@ fn begin(
 /// Makes all texts, and then writes their files.
 pub fn write_files<'x>(
     rt: &HostRuntime,
-    given: Given<'_>,
+    given: &Given<'_>,
     file: &'x File,
     read: &'x Reading<'_>,
 ) -> Result<(), Ending> {

@@ -37,7 +37,7 @@ fn spoken(alloc: Global, tables: &Tables, messages: &Messages) -> Made<Speech> {
 /// something is wrong with it, that is said.
 fn read_speech(
     rt: &HostRuntime,
-    given: Given<'_>,
+    given: &Given<'_>,
     path: &str,
     tables: &Tables,
 ) -> Result<Speech, Ending> {
@@ -65,7 +65,7 @@ fn read_speech(
 /// The messages that words ask for, where they do. A parser whose user speaks of errors has none.
 pub fn speech_of(
     rt: &HostRuntime,
-    given: Given<'_>,
+    given: &Given<'_>,
     tables: &Tables,
     style: &Style<'_>,
 ) -> Result<Option<Speech>, Ending> {

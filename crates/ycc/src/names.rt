@@ -136,7 +136,7 @@ fn word(text: Option<&[u8]>) -> Option<&str> {
 
 /// The names where no file is named: those of bison, or of `yacc` where the program is called so and
 /// the parser is in C.
-fn names_by_prefix(alloc: Global, given: Given<'_>, options: &Options<'_>) -> Made<Names> {
+fn names_by_prefix(alloc: Global, given: &Given<'_>, options: &Options<'_>) -> Made<Names> {
     let (stem, mut named) = named_by(given.grammar);
     if named == PLAIN && options.language == Some(Language::Cxx) {
         named = (".cc", ".hh");
@@ -155,7 +155,7 @@ fn names_by_prefix(alloc: Global, given: Given<'_>, options: &Options<'_>) -> Ma
 /// name to the others where it ends in `.c`.
 fn names_for(
     alloc: Global,
-    given: Given<'_>,
+    given: &Given<'_>,
     options: &Options<'_>,
     is_bison: bool,
 ) -> Made<Names> {
@@ -209,7 +209,7 @@ fn name_beside(
 /// the file names counts before what words name, as for bison.
 pub fn names_of(
     alloc: Global,
-    given: Given<'_>,
+    given: &Given<'_>,
     options: &Options<'_>,
     is_bison: bool,
 ) -> Made<Names> {

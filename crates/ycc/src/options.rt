@@ -91,10 +91,14 @@ const VARIABLE: Has = Has::Value("NAME=VALUE");
 const LANGUAGE: Has = Has::Value("LANGUAGE");
 
 /// How many options there are.
-const COUNT: usize = 47;
+pub const COUNT: usize = 47;
 
-/// The options, in the order of their help.
-pub const OPTIONS: [Known; COUNT] = [
+/// How many of them stand in a list, but for the last one.
+const PART: usize = 12;
+
+/// The options, in the order of their help, in several lists: what names a list costs its proof
+/// by the square of its length.
+const FIRST: [Known; PART] = [
     (
         Some('h'),
         "help",
@@ -191,6 +195,9 @@ pub const OPTIONS: [Known; COUNT] = [
         Ask::Report,
         "Writes the report on states too",
     ),
+];
+
+const SECOND: [Known; PART] = [
     (
         Some('r'),
         "",
@@ -287,6 +294,9 @@ pub const OPTIONS: [Known; COUNT] = [
         Ask::Pure,
         "The parser has no variables that its calls share",
     ),
+];
+
+const THIRD: [Known; PART] = [
     (
         None,
         "locations",
@@ -383,6 +393,9 @@ pub const OPTIONS: [Known; COUNT] = [
         Ask::Kinds,
         "Which warnings are told, and which are errors",
     ),
+];
+
+const LAST: [Known; COUNT % PART] = [
     (
         Some('f'),
         "feature",
@@ -431,49 +444,34 @@ pub const OPTIONS: [Known; COUNT] = [
     (Some('B'), "", Whose::Byacc, NOTHING, NO_WAY_BACK, ""),
 ];
 
-/// The option of a letter in a call as bison, or in any other call.
-pub fn option_of(letter: char, is_bison: bool) -> Option<Known> {
-    for known in &OPTIONS {
-        let is_there = match known.2 {
-            Whose::All => true,
-            Whose::Bison => is_bison,
-            Whose::Byacc => !is_bison,
-        };
-        if known.0 == Some(letter) && is_there {
-            return Some(*known);
-        }
-    }
-    None
+/// One of the first options, by its place among them.
+fn first_at(place: usize) -> Option<Known> {
+    FIRST.get(place).copied()
 }
 
-/// What a long name is.
-#[derive(Clone, Copy, Drop)]
-pub enum Found {
-    /// That of an option, or the beginning of names of one alone.
-    One(Known),
-    /// The beginning of several options' names.
-    Several,
-    /// That of none.
-    None,
+/// One of the second options, by its place among them.
+fn second_at(place: usize) -> Option<Known> {
+    SECOND.get(place).copied()
 }
 
-/// The option of a long name, or of the beginning of one.
-pub fn option_named(name: &str) -> Found {
-    let mut found = Found::None;
-    for known in &OPTIONS {
-        for it in known.1.split(' ') {
-            if it == name {
-                return Found::One(*known);
-            }
-            if name.is_empty() || !it.starts_with(name) {
-                continue;
-            }
-            found = match found {
-                Found::None => Found::One(*known),
-                Found::One(other) if other.1 == known.1 => found,
-                _ => Found::Several,
-            };
-        }
+/// One of the third options, by its place among them.
+fn third_at(place: usize) -> Option<Known> {
+    THIRD.get(place).copied()
+}
+
+/// One of the last options, by its place among them.
+fn last_at(place: usize) -> Option<Known> {
+    LAST.get(place).copied()
+}
+
+/// An option by its number from 0 on.
+pub fn option_at(number: usize) -> Option<Known> {
+    let place = number % PART;
+    match number / PART {
+        0 => first_at(place),
+        1 => second_at(place),
+        2 => third_at(place),
+        3 => last_at(place),
+        _ => None,
     }
-    found
 }

@@ -1,6 +1,7 @@
 //! The words of the command line of `ycc`, read by its options.
 
-use crate::options::{Ask, Found, Has, Known, option_named, option_of};
+use crate::found::{Found, option_named, option_of};
+use crate::options::{Ask, Has, Known};
 use crate::persona;
 use crate::words::{Asked, DATA_FOLDER, Given, LOCALE_FOLDER, VERSION, Wanted};
 use std::alloc::{AllocError, Global};

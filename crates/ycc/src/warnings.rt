@@ -88,7 +88,7 @@ impl Reading<'_> {
 }
 
 /// Finds all that can be warned of in a file, but its conflicts.
-fn find_all<'a>(seen: Seen<'a>, kinds: Wanted) -> Made<Vec<Finding<'a>>> {
+fn find_all<'a>(seen: &'a Seen<'a>, kinds: Wanted) -> Made<Vec<Finding<'a>>> {
     let mut declared = Declared::new(seen)?;
     for group in seen.groups {
         declared.find(group)?;
@@ -256,7 +256,7 @@ pub fn tell_found(
             tables: &read.tables,
             parts: &read.parts,
         };
-        return end(rt, file, read, skeleton, wanted, find_all(seen, wanted)?);
+        return end(rt, file, read, skeleton, wanted, find_all(&seen, wanted)?);
     }
     end(rt, file, read, skeleton, wanted, Vec::new(alloc))
 }

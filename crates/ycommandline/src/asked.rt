@@ -95,7 +95,7 @@ fn conflicts_in<'m>(matches: &'m ArgMatches<'_>) -> Result<Asked<'m>, Refused> {
         update: is_given(matches, "update"),
         format: matches.get_str("format"),
     };
-    match conflicts::wrong_in(asked) {
+    match conflicts::wrong_in(&asked) {
         Some(wrong) => Err(Refused::Wrong(wrong)),
         None => Ok(Asked::Conflicts(asked)),
     }

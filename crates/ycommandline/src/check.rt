@@ -32,7 +32,7 @@ impl Asked<'_> {
     /// Writes the verdict on an input, and gives its exit status; of a rejection also where it is
     /// detected late.
     fn put_verdict<W: Write>(
-        self,
+        &self,
         alloc: Global,
         out: &mut W,
         (told, defaults): (&Messaged, &mut Defaults),
@@ -62,7 +62,7 @@ impl<F: Files + AllocGlobal, R: Read, E: Write> Given<'_, F, R, E> {
     /// Writes what comes of an input, and gives its exit status, and the input, where it is rejected.
     fn put_input<W: Write>(
         &mut self,
-        asked: Asked<'_>,
+        asked: &Asked<'_>,
         (told, defaults): (&Messaged, &mut Defaults),
         path: &str,
         out: &mut W,
@@ -88,7 +88,7 @@ impl<F: Files + AllocGlobal, R: Read, E: Write> Given<'_, F, R, E> {
     /// Writes what comes of each input, and gives the greatest of their exit statuses.
     fn put_inputs<W: Write>(
         &mut self,
-        asked: Asked<'_>,
+        asked: &Asked<'_>,
         messaged: Messaged,
         out: &mut W,
     ) -> io::Result<u8> {
@@ -114,9 +114,12 @@ impl<F: Files + AllocGlobal, R: Read, E: Write> Given<'_, F, R, E> {
     }
 
     /// Writes what is asked for, for people, and gives the exit status.
-    fn put_verdicts<W: Write>(&mut self, asked: Asked<'_>, out: &mut W) -> io::Result<u8> {
+    fn put_verdicts<W: Write>(&mut self, asked: &Asked<'_>, out: &mut W) -> io::Result<u8> {
         let most = asked.inputs.most;
-        let messages = asked.inputs.messages.map(|path| Limited { path, most });
+        let messages = match asked.inputs.messages {
+            Some(path) => Some(Limited { path, most }),
+            None => None,
+        };
         let mut told = Diagnostics::new(self.rt.alloc());
         let opened = Messaged::open(self.rt, asked.inputs.files, messages, &mut told)?;
         let told = told.only(self.rt.alloc(), asked.inputs.shown)?;
@@ -141,7 +144,7 @@ impl<F: Files + AllocGlobal, R: Read, E: Write> Given<'_, F, R, E> {
     /// accepted, 3 where one can't be read, or memory runs out, 4 where there is no verdict on one
     /// within 1,000,000 steps. For people, faults of the grammar, the SPEC and the file of messages
     /// are reported as errors.
-    pub fn run_check<W: Write>(&mut self, asked: Asked<'_>, out: &mut W) -> io::Result<u8> {
+    pub fn run_check<W: Write>(&mut self, asked: &Asked<'_>, out: &mut W) -> io::Result<u8> {
         if asked.inputs.format == Format::Text {
             return self.put_verdicts(asked, out);
         }

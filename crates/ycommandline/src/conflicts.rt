@@ -43,7 +43,7 @@ pub struct Asked<'a> {
 }
 
 /// What is wrong with options.
-pub fn wrong_in(asked: Asked<'_>) -> Option<&'static str> {
+pub fn wrong_in(asked: &Asked<'_>) -> Option<&'static str> {
     let Asked {
         save,
         expect,
@@ -51,7 +51,7 @@ pub fn wrong_in(asked: Asked<'_>) -> Option<&'static str> {
         update,
         format,
         ..
-    } = asked;
+    } = *asked;
     if save == Some("") {
         Some(NO_FOLDER)
     } else if update && accept.is_none() {
@@ -68,7 +68,7 @@ pub fn wrong_in(asked: Asked<'_>) -> Option<&'static str> {
 }
 
 /// The numbers of conflicts that are accepted.
-fn counts_in(asked: Asked<'_>) -> Option<Counts> {
+fn counts_in(asked: &Asked<'_>) -> Option<Counts> {
     numbers_in(asked.expect?)
 }
 
@@ -77,7 +77,7 @@ fn counts_in(asked: Asked<'_>) -> Option<Counts> {
 /// 1.
 fn put_listed<W: Write, E: Write>(
     alloc: Global,
-    asked: Asked<'_>,
+    asked: &Asked<'_>,
     judged: &Judged,
     out: &mut W,
     errors: &mut E,
@@ -99,7 +99,7 @@ fn put_listed<W: Write, E: Write>(
 }
 
 /// Which conflicts are accepted.
-fn accepted_by(asked: Asked<'_>) -> judged::Asked<'_> {
+fn accepted_by<'a>(asked: &Asked<'a>) -> judged::Asked<'a> {
     judged::Asked {
         grammar: asked.grammar.path,
         expect: counts_in(asked),
@@ -112,7 +112,7 @@ impl<F: Files + AllocGlobal + Clone + Drop, R: Read, E: Write> Given<'_, F, R, E
     /// Writes the report, and gives the exit status.
     fn put_report<W: Write>(
         &mut self,
-        asked: Asked<'_>,
+        asked: &Asked<'_>,
         opened: Opened,
         judged: &Judged,
         out: &mut W,
@@ -134,7 +134,7 @@ impl<F: Files + AllocGlobal + Clone + Drop, R: Read, E: Write> Given<'_, F, R, E
     /// gives the exit status.
     fn put_counted<W: Write>(
         &mut self,
-        asked: Asked<'_>,
+        asked: &Asked<'_>,
         (counted, told): (Counted, Diagnostics),
         out: &mut W,
     ) -> io::Result<u8> {
@@ -159,7 +159,7 @@ impl<F: Files + AllocGlobal + Clone + Drop, R: Read, E: Write> Given<'_, F, R, E
     /// Writes what is said of conflicts, and gives the exit status.
     fn put_by<W: Write>(
         &mut self,
-        asked: Asked<'_>,
+        asked: &Asked<'_>,
         format: Format,
         out: &mut W,
     ) -> io::Result<u8> {
@@ -190,7 +190,7 @@ impl<F: Files + AllocGlobal + Clone + Drop, R: Read, E: Write> Given<'_, F, R, E
     }
 
     /// Whether what would be written is a file that is read: that is written on `errors`.
-    fn is_refused(&mut self, asked: Asked<'_>) -> io::Result<bool> {
+    fn is_refused(&mut self, asked: &Asked<'_>) -> io::Result<bool> {
         let grammar = asked.grammar.path;
         let output = if asked.update { asked.accept } else { None };
         if refused_outputs(self.rt, &[output], &[grammar], &mut self.errors)?.is_some() {
@@ -207,7 +207,7 @@ impl<F: Files + AllocGlobal + Clone + Drop, R: Read, E: Write> Given<'_, F, R, E
     /// accepted conflicts is refused, or with `strict` a conflict isn't accepted or there is a
     /// warning; 2 where a file that is read would be written over; 3 where a file can't be read or
     /// written, memory runs out, or there are too many states.
-    pub fn run_conflicts<W: Write>(&mut self, asked: Asked<'_>, out: &mut W) -> io::Result<u8> {
+    pub fn run_conflicts<W: Write>(&mut self, asked: &Asked<'_>, out: &mut W) -> io::Result<u8> {
         if self.is_refused(asked)? {
             return Ok(2);
         }

@@ -55,7 +55,7 @@ impl<F: Files + AllocGlobal, R: Read, E: Write> Given<'_, F, R, E> {
     /// Reads all inputs. Where there is none, or one isn't accepted, that is written.
     fn read_all<W: Write>(
         &mut self,
-        asked: Asked<'_>,
+        asked: &Asked<'_>,
         language: &Language,
         out: &mut W,
     ) -> io::Result<Inputs> {
@@ -86,7 +86,7 @@ impl<F: Files + AllocGlobal, R: Read, E: Write> Given<'_, F, R, E> {
     /// Writes what is asked for, and gives the exit status: 0; 1 where the grammar, the SPEC or an
     /// input is refused, or where something isn't used and that is to count; 3 where a file can't
     /// be read, or memory runs out. Faults of the grammar and of the SPEC are reported as errors.
-    pub fn run_cover<W: Write>(&mut self, asked: Asked<'_>, out: &mut W) -> io::Result<u8> {
+    pub fn run_cover<W: Write>(&mut self, asked: &Asked<'_>, out: &mut W) -> io::Result<u8> {
         let language = match Language::open(self.rt, asked.files, &mut self.errors)? {
             Ok(language) => language,
             Err(status) => return Ok(status),

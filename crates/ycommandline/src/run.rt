@@ -110,11 +110,11 @@ impl<F: Files + AllocGlobal + Clone + Drop, R: Read + Drop, E: Write> Given<'_, 
         let rt = self.rt;
         match asked {
             Asked::Session(asked) => self.run_session(asked, out),
-            Asked::Conflicts(asked) => self.run_conflicts(asked, out),
-            Asked::Check(asked) => self.run_check(asked, out),
-            Asked::Errors(asked) => run_errors(rt, asked, out, &mut self.errors),
+            Asked::Conflicts(asked) => self.run_conflicts(&asked, out),
+            Asked::Check(asked) => self.run_check(&asked, out),
+            Asked::Errors(asked) => run_errors(rt, &asked, out, &mut self.errors),
             Asked::Sentences(asked) => run_sentences(rt, asked, out, &mut self.errors),
-            Asked::Cover(asked) => self.run_cover(asked, out),
+            Asked::Cover(asked) => self.run_cover(&asked, out),
             Asked::Test(asked) => run_test(rt, asked, out, &mut self.errors),
             Asked::Page(files, input, asked) => {
                 let source = Source { rt, files, input };

@@ -53,7 +53,7 @@ impl Asked<'_> {
     /// What is said of an input, the exit status where nothing else is said, and the input, where it
     /// has further errors to be said.
     fn take<F: Files + AllocGlobal, R: Read>(
-        self,
+        &self,
         rt: &F,
         stdin: &mut R,
         (messaged, told, defaults): (&Messaged, &mut Diagnostics, &mut Defaults),
@@ -93,7 +93,7 @@ impl Asked<'_> {
 
     /// Says what is wrong with each input, and gives what comes of them and the exit status.
     fn take_all<F: Files + AllocGlobal, R: Read>(
-        self,
+        &self,
         rt: &F,
         stdin: &mut R,
         messaged: Messaged,
@@ -120,7 +120,7 @@ impl Asked<'_> {
 impl<'a> Asked<'a> {
     /// Writes what is said of inputs, or without them, and gives the exit status.
     fn put<W: Write>(
-        self,
+        &self,
         alloc: Global,
         told: &'a Diagnostics,
         inputs: Option<&'a [InputSheet]>,

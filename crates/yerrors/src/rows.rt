@@ -1,8 +1,8 @@
 //! What is found, in rows: the tokens that can be ahead after a spot, by how many tokens it takes.
 
 use crate::sets::{Known, Sets, Source};
-use indexmap::IndexSet;
 use std::alloc::Global;
+use yexplain::distinct::Distinct;
 use yexplain::reads::Made;
 use ylalr::Item;
 use ysearch::queue::{FAR, Queue};
@@ -102,11 +102,11 @@ pub struct Rows {
     /// All sets.
     pub sets: Sets,
     /// The spots that have rows.
-    pub spots: IndexSet<Spot>,
+    pub spots: Distinct<Spot>,
     /// The rows of each spot.
     of_spots: Vec<Vec<usize>>,
     /// What each row is of.
-    pub keys: IndexSet<Key>,
+    pub keys: Distinct<Key>,
     rows: Vec<Row>,
     /// The rows in which something waits or has waited, and what.
     waiting: Vec<(usize, Level)>,
@@ -142,9 +142,9 @@ impl Rows {
         Rows {
             alloc,
             sets: Sets::new(alloc, tokens),
-            spots: IndexSet::new(alloc),
+            spots: Distinct::new(alloc),
             of_spots: Vec::new(alloc),
-            keys: IndexSet::new(alloc),
+            keys: Distinct::new(alloc),
             rows: Vec::new(alloc),
             waiting: Vec::new(alloc),
             queue: Queue::new(alloc),
@@ -189,7 +189,7 @@ impl Rows {
 
     /// What a row is of.
     pub fn key(&self, row: usize) -> Option<Key> {
-        self.keys.get_index(row).copied()
+        self.keys.at(row)
     }
 
     /// The levels of a row.
@@ -223,16 +223,16 @@ impl Rows {
 
     /// The row of a key, which is made where there is none.
     fn number(&mut self, key: Key) -> Made<usize> {
-        if let Some(row) = self.keys.get_index_of(&key) {
+        if let Some(row) = self.keys.number(key) {
             return Ok(row);
         }
-        let (place, is_new) = self.spots.insert_full(key.spot)?;
+        let (place, is_new) = self.spots.add(key.spot)?;
         if is_new {
             self.of_spots.push(Vec::new(self.alloc))?;
         }
         let known = self.make_set()?;
         self.keep(WORDS_OF_ROW);
-        let (row, _) = self.keys.insert_full(key)?;
+        let (row, _) = self.keys.add(key)?;
         self.rows.push(Row {
             known,
             levels: Vec::new(self.alloc),

@@ -4,9 +4,9 @@
 use crate::rows::{Key, NOTHING, Rows, Spot, Taken};
 use crate::sets::Source;
 use crate::ways::{Ways, before_dot};
-use indexmap::IndexMap;
 use std::alloc::Global;
-use yexplain::reads::{Made, grammar_of, is_complete, items_of, left_of, set};
+use std::collections::HashMap;
+use yexplain::reads::{Made, grammar_of, is_complete, is_set, items_of, left_of, set};
 use ylalr::{END, ERROR, Item, token_count};
 use ysymbols::{Sym, let_go};
 use ytables::Action;
@@ -29,7 +29,7 @@ pub struct Search<'a> {
     /// What is found.
     pub rows: Rows,
     /// For each state, and each rule that it reduces, the set of the tokens at which it does.
-    pub masks: IndexMap<(usize, usize), usize>,
+    pub masks: HashMap<(usize, usize), usize>,
     /// The set of all tokens that an input can have.
     pub inputs: usize,
     /// The set of each alone.
@@ -46,7 +46,7 @@ impl Drop for Search<'_> {
 
 /// Whether an input can have a token, where it can't have those that are marked.
 pub fn can_stand(absent: &[bool], token: Sym) -> bool {
-    token != ERROR && absent.get(token) != Some(&true)
+    token != ERROR && !is_set(absent, token)
 }
 
 /// The row of a state.
@@ -68,7 +68,7 @@ impl<'a> Search<'a> {
             ways,
             absent,
             rows,
-            masks: IndexMap::new(alloc),
+            masks: HashMap::new(alloc),
             inputs,
             alone: Vec::new(alloc),
             detected: vec![in alloc; None; states]?,
@@ -82,7 +82,7 @@ impl<'a> Search<'a> {
 
     /// The row of a state, where a parse comes to that before any error.
     pub fn row(&self, state: usize) -> Option<usize> {
-        let row = self.rows.keys.get_index_of(&state_key(state))?;
+        let row = self.rows.keys.number(state_key(state))?;
         if self.rows.levels(row).is_empty() {
             None
         } else {

@@ -90,7 +90,7 @@ impl Search<'_> {
         let Some(number) = self.ways.gotos.number(before, symbol) else {
             return Ok(());
         };
-        let Some(spot) = self.rows.spots.get_index_of(&Spot::Goto(number)) else {
+        let Some(spot) = self.rows.spots.number(Spot::Goto(number)) else {
             return Ok(());
         };
         for index in 0..self.rows.count(spot) {
@@ -132,7 +132,7 @@ impl Search<'_> {
                 self.leave_goto_in((row, level), key, (to, item))?;
             }
         }
-        let Some(way) = self.rows.keys.get_index_of(&state_key(state)) else {
+        let Some(way) = self.rows.keys.number(state_key(state)) else {
             return Ok(());
         };
         match self.joined((way, first), (row, level)) {
@@ -173,7 +173,7 @@ impl Search<'_> {
     /// Joins a level and each row of a spot, where the level has the token that is ahead before
     /// that.
     fn join_all(&mut self, key: Option<Key>, (row, level): (usize, Level), spot: Spot) -> Made<()> {
-        let Some(spot) = self.rows.spots.get_index_of(&spot) else {
+        let Some(spot) = self.rows.spots.number(spot) else {
             return Ok(());
         };
         for index in 0..self.rows.count(spot) {

@@ -1,8 +1,8 @@
 //! What the tables say of the ways between states: where a nonterminal leads, which items it is
 //! before, and at which tokens a rule is reduced.
 
-use indexmap::IndexSet;
 use std::alloc::Global;
+use yexplain::distinct::Distinct;
 use yexplain::reads::{Made, action_of, body_of, goto_of, items_of, next_of};
 use ylalr::{Automaton, ERROR, Item};
 use ysearch::moves::Moves;
@@ -13,7 +13,7 @@ use ytables::{Action, Tables};
 /// The gotos of an automaton by number, those of a state side by side.
 pub struct Gotos {
     /// The state and the nonterminal of each.
-    pairs: IndexSet<(usize, Sym)>,
+    pairs: Distinct<(usize, Sym)>,
     /// Where each leads.
     targets: Vec<usize>,
     /// The number of the first one of each state, and in the end how many there are.
@@ -50,7 +50,7 @@ impl Gotos {
     /// The gotos of an automaton.
     fn new(alloc: Global, automaton: &Automaton) -> Made<Gotos> {
         let mut gotos = Gotos {
-            pairs: IndexSet::new(alloc),
+            pairs: Distinct::new(alloc),
             targets: Vec::new(alloc),
             starts: Vec::new(alloc),
             items: Vec::new(alloc),
@@ -75,7 +75,7 @@ impl Gotos {
         let Some(to) = goto_of(automaton, state, symbol) else {
             return Ok(());
         };
-        let (number, is_new) = self.pairs.insert_full((state, symbol))?;
+        let (number, is_new) = self.pairs.add((state, symbol))?;
         if is_new {
             self.targets.push(to)?;
             self.items.push(Vec::new(alloc))?;
@@ -88,12 +88,12 @@ impl Gotos {
 
     /// The number of the goto of a state over a nonterminal.
     pub fn number(&self, state: usize, symbol: Sym) -> Option<usize> {
-        self.pairs.get_index_of(&(state, symbol))
+        self.pairs.number((state, symbol))
     }
 
     /// The state of a goto, and the one to which it leads.
     pub fn ends(&self, number: usize) -> Option<(usize, usize)> {
-        let (state, _) = self.pairs.get_index(number).copied()?;
+        let (state, _) = self.pairs.at(number)?;
         Some((state, self.targets.get(number).copied()?))
     }
 

@@ -3,6 +3,7 @@
 #![tactic(auto)]
 
 pub mod advice;
+pub mod distinct;
 mod hints;
 pub mod lines;
 pub mod mends;

@@ -18,6 +18,11 @@ pub fn set<T: Copy>(entries: &mut [T], place: usize, value: T) {
     }
 }
 
+/// Whether a mark is set; one that isn't there is not.
+pub fn is_set(marks: &[bool], place: usize) -> bool {
+    matches!(marks.get(place), Some(true))
+}
+
 /// The grammar that tables were made for.
 pub fn grammar_of(tables: &Tables) -> &Grammar {
     tables.automaton().grammar()

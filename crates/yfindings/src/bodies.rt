@@ -66,7 +66,7 @@ fn after_sign<'a>(group: &Group<'a>) -> (&'a [Lexeme], usize) {
 }
 
 /// The bodies of a file, in its order: they have the rules but those of actions within bodies.
-pub fn bodies_of<'a>(seen: Seen<'a>) -> Made<Vec<Body<'a>>> {
+pub fn bodies_of<'a>(seen: &Seen<'a>) -> Made<Vec<Body<'a>>> {
     let grammar = seen.grammar();
     let mut rules = Vec::new(seen.alloc);
     for rule in 1..grammar.rules() {
@@ -110,7 +110,7 @@ pub fn tag_in<'a>(text: &'a [u8]) -> &'a [u8] {
 
 impl<'a> Body<'a> {
     /// The entry of a symbol or an action, which has this tag of its own.
-    fn entry(seen: Seen<'a>, lexeme: &Lexeme, tag: Option<&'a [u8]>) -> Made<Entry<'a>> {
+    fn entry(seen: &Seen<'a>, lexeme: &Lexeme, tag: Option<&'a [u8]>) -> Made<Entry<'a>> {
         let (at, text) = (lexeme.span.from, seen.text(lexeme));
         if lexeme.kind == Kind::Braced {
             return Ok(Entry {
@@ -134,7 +134,7 @@ impl<'a> Body<'a> {
     }
 
     /// Its entries, and the action at its end.
-    pub fn cut(self, seen: Seen<'a>) -> Made<Cut<'a>> {
+    pub fn cut(&self, seen: &Seen<'a>) -> Made<Cut<'a>> {
         let mut cut = Cut {
             entries: Vec::new(seen.alloc),
             last: None,
@@ -170,7 +170,7 @@ impl<'a> Body<'a> {
     }
 
     /// The place of the symbol that has a name in it; that of the left side is 0.
-    pub fn place_of(self, seen: Seen<'a>, name: &[u8]) -> Option<usize> {
+    pub fn place_of(&self, seen: &Seen<'a>, name: &[u8]) -> Option<usize> {
         for named in seen.parts.names_in(self.number) {
             if named.name == name {
                 return Some(named.place);

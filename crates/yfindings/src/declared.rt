@@ -5,7 +5,7 @@ use crate::bodies::tag_in;
 use crate::deprecated::{find_in_define, find_in_word};
 use crate::finding::{Finding, Seen, What, about_all, warning};
 use crate::kinds::Kind;
-use yexplain::reads::{Made, name_of, set};
+use yexplain::reads::{Made, is_set, name_of, set};
 use yforeign::directive::{Directive, Shape, is_symbol, is_word};
 use yforeign::groups::{Group, Head};
 use yforeign::lexeme::{Kind as Form, Lexeme};
@@ -19,7 +19,7 @@ use ysymbols::{Sym, let_go};
 
 /// Declarations while they are gone through.
 pub struct Declared<'a> {
-    seen: Seen<'a>,
+    seen: &'a Seen<'a>,
     /// What is found.
     pub found: Vec<Finding<'a>>,
     /// How many names have no rules.
@@ -51,7 +51,7 @@ impl Drop for Declared<'_> {
 
 impl<'a> Declared<'a> {
     /// No declarations yet.
-    pub fn new(seen: Seen<'a>) -> Made<Declared<'a>> {
+    pub fn new(seen: &'a Seen<'a>) -> Made<Declared<'a>> {
         let (alloc, symbols) = (seen.alloc, seen.grammar().symbols());
         Ok(Declared {
             seen,
@@ -185,7 +185,7 @@ impl<'a> Declared<'a> {
         if is_among(&self.strings, text) {
             let what = What::SecondString(seen.text(lexeme));
             self.found.push(warning(Kind::Other, at, what))?;
-        } else if self.aliased.get(symbol) == Some(&true) {
+        } else if is_set(&self.aliased, symbol) {
             let what = What::SecondAlias(seen.text(token));
             self.found.push(warning(Kind::Other, at, what))?;
             let loose = What::Loose(seen.text(lexeme));
@@ -309,7 +309,7 @@ impl<'a> Declared<'a> {
 
 impl Seen<'_> {
     /// Whether a symbol has a tag.
-    fn has_tag(self, tag: &[u8]) -> bool {
+    fn has_tag(&self, tag: &[u8]) -> bool {
         for looks in &self.parts.looks {
             if looks.tag == Some(tag) {
                 return true;
@@ -320,7 +320,7 @@ impl Seen<'_> {
 
     /// Whether code for all symbols with tags, or for all without, is that of a symbol: one that the
     /// file names, that isn't `error` and has no code of its own, nor by its tag.
-    fn has_use(self, directive: &[u8], is_tagged: bool) -> bool {
+    fn has_use(&self, directive: &[u8], is_tagged: bool) -> bool {
         let deed = match is_word(directive, "%destructor") {
             true => Deed::Destroy,
             false => Deed::Print,
@@ -340,7 +340,7 @@ impl Seen<'_> {
     }
 
     /// Whether a symbol has code of its own, or by its tag.
-    fn has_own(self, deed: Deed, symbol: Sym) -> bool {
+    fn has_own(&self, deed: Deed, symbol: Sym) -> bool {
         for care in &self.parts.cares {
             let is_own = match care.whose {
                 Whose::Symbol(own) => own == symbol,

@@ -10,7 +10,7 @@ use yforeign::numbers::number_of;
 use ytables::{Action, Class};
 
 /// How many shift/reduce conflicts each rule has.
-fn counts_of(seen: Seen<'_>) -> Made<Vec<usize>> {
+fn counts_of(seen: &Seen<'_>) -> Made<Vec<usize>> {
     let (tables, grammar) = (seen.tables, seen.grammar());
     let mut counts = vec![in seen.alloc; 0usize; grammar.rules()]?;
     for state in 0..tables.automaton().states() {
@@ -30,7 +30,7 @@ fn counts_of(seen: Seen<'_>) -> Made<Vec<usize>> {
 }
 
 /// The number after a directive of a body, and where it stands.
-fn expected_in(seen: Seen<'_>, lexemes: &[Lexeme], wanted: Directive) -> Option<(usize, usize)> {
+fn expected_in(seen: &Seen<'_>, lexemes: &[Lexeme], wanted: Directive) -> Option<(usize, usize)> {
     let mut is_meant = false;
     let mut found = None;
     for lexeme in lexemes {
@@ -46,7 +46,7 @@ fn expected_in(seen: Seen<'_>, lexemes: &[Lexeme], wanted: Directive) -> Option<
 /// Finds the rules that expect other numbers of conflicts than they have, or reduce/reduce
 /// conflicts, which are for another kind of parser.
 pub fn find_expected<'a>(
-    seen: Seen<'a>,
+    seen: &Seen<'a>,
     bodies: &[Body<'a>],
     found: &mut Vec<Finding<'a>>,
 ) -> Made<()> {

@@ -193,24 +193,24 @@ pub struct Seen<'a> {
 
 impl<'a> Seen<'a> {
     /// Its grammar.
-    pub fn grammar(self) -> &'a Grammar {
+    pub fn grammar(&self) -> &'a Grammar {
         grammar_of(self.tables)
     }
 
     /// The text of a lexeme.
-    pub fn text(self, lexeme: &Lexeme) -> &'a [u8] {
+    pub fn text(&self, lexeme: &Lexeme) -> &'a [u8] {
         lexeme.text(self.source)
     }
 
     /// The symbol that a lexeme names.
-    pub fn symbol(self, lexeme: &Lexeme) -> Made<Option<Sym>> {
+    pub fn symbol(&self, lexeme: &Lexeme) -> Made<Option<Sym>> {
         let (spelling, grammar) = (&self.imported.spelling, self.grammar());
         spelling.symbol(self.alloc, self.source, grammar, lexeme)
     }
 
     /// What a symbol is called in the file: a literal, or a string that has no other name, as it
     /// stands there.
-    pub fn name(self, symbol: Sym) -> &'a [u8] {
+    pub fn name(&self, symbol: Sym) -> &'a [u8] {
         let looks = self.parts.looks_of(symbol);
         match looks.label {
             Some(label) if looks.is_made || label.starts_with(b"'") => label,

@@ -5,7 +5,7 @@ use crate::bodies::Body;
 use crate::finding::{Finding, Idle, Seen, What, warning};
 use crate::kinds::Kind;
 use yexplain::lines::last_token;
-use yexplain::reads::{Made, body_of, candidates_of, level_of, rule_of, set, shift_of};
+use yexplain::reads::{Made, body_of, candidates_of, is_set, level_of, rule_of, set, shift_of};
 use yforeign::directive::{Directive, directive_of, is_symbol};
 use yforeign::groups::Head;
 use yforeign::lexeme::{Kind as Form, Lexeme};
@@ -23,7 +23,7 @@ struct Settled {
 }
 
 /// The symbol that `%prec` names in a body.
-fn named_in(seen: Seen<'_>, lexemes: &[Lexeme]) -> Made<Option<Sym>> {
+fn named_in(seen: &Seen<'_>, lexemes: &[Lexeme]) -> Made<Option<Sym>> {
     let mut is_named = false;
     for lexeme in lexemes {
         if is_named && is_symbol(lexeme.kind) {
@@ -36,7 +36,7 @@ fn named_in(seen: Seen<'_>, lexemes: &[Lexeme]) -> Made<Option<Sym>> {
 }
 
 /// The tokens that give rules their precedence.
-fn givers_of(seen: Seen<'_>, bodies: &[Body<'_>]) -> Made<Vec<Option<Sym>>> {
+fn givers_of(seen: &Seen<'_>, bodies: &[Body<'_>]) -> Made<Vec<Option<Sym>>> {
     let grammar = seen.grammar();
     let mut givers = vec![in seen.alloc; None; grammar.rules()]?;
     for body in bodies {
@@ -51,7 +51,7 @@ fn givers_of(seen: Seen<'_>, bodies: &[Body<'_>]) -> Made<Vec<Option<Sym>>> {
 
 impl Settled {
     /// Compares the rules of a cell with its shift.
-    fn settle(&mut self, seen: Seen<'_>, state: usize, token: Sym) {
+    fn settle(&mut self, seen: &Seen<'_>, state: usize, token: Sym) {
         let grammar = seen.grammar();
         let Some(own) = level_of(grammar, token) else {
             return;
@@ -90,18 +90,18 @@ impl Settled {
 
 impl Seen<'_> {
     /// Whether a level comes from `%precedence`.
-    fn has_no_direction(self, level: usize) -> bool {
+    fn has_no_direction(&self, level: usize) -> bool {
         let place = level.saturating_sub(1);
         self.imported.levels.get(place).copied().flatten().is_some()
     }
 }
 
 /// What of a token's precedence settled nothing.
-fn idle_of(seen: Seen<'_>, settled: &Settled, token: Sym) -> Option<Idle> {
+fn idle_of(seen: &Seen<'_>, settled: &Settled, token: Sym) -> Option<Idle> {
     let level = level_of(seen.grammar(), token)?;
     let has_direction = !seen.has_no_direction(level.level);
-    let by_level = settled.by_level.get(token) == Some(&true);
-    let by_direction = settled.by_direction.get(token) == Some(&true);
+    let by_level = is_set(&settled.by_level, token);
+    let by_direction = is_set(&settled.by_direction, token);
     match (by_level, has_direction, by_direction) {
         (false, true, false) => Some(Idle::Both),
         (false, false, _) => Some(Idle::Level),
@@ -112,7 +112,7 @@ fn idle_of(seen: Seen<'_>, settled: &Settled, token: Sym) -> Option<Idle> {
 
 /// Finds the tokens of a declaration whose precedence settles nothing, and that weren't shown yet.
 fn find_idle<'a>(
-    seen: Seen<'a>,
+    seen: &Seen<'a>,
     settled: &Settled,
     is_told: &mut [bool],
     lexemes: &'a [Lexeme],
@@ -140,7 +140,7 @@ fn find_idle<'a>(
 
 /// Finds the precedences that settle nothing.
 pub fn find_levels<'a>(
-    seen: Seen<'a>,
+    seen: &Seen<'a>,
     bodies: &[Body<'a>],
     found: &mut Vec<Finding<'a>>,
 ) -> Made<()> {

@@ -6,7 +6,7 @@ use crate::kinds::Kind;
 use crate::walk::Walk;
 use std::alloc::Global;
 use yexplain::lines::is_inner;
-use yexplain::reads::{Made, body_of, left_of, set};
+use yexplain::reads::{Made, body_of, is_set, left_of, set};
 use yforeign::lexeme::{Kind as Form, Lexeme, Span};
 use yforeign::numbers::number_of;
 use yimport::left_out::{Barren, LeftOut};
@@ -26,7 +26,7 @@ pub struct Needed {
 /// Whether all symbols are marked.
 fn all_marked(marks: &[bool], symbols: &[Sym]) -> bool {
     for symbol in symbols {
-        if marks.get(*symbol) != Some(&true) {
+        if !is_set(marks, *symbol) {
             return false;
         }
     }
@@ -39,7 +39,7 @@ impl Needed {
         let mut grows = false;
         for rule in 0..grammar.rules() {
             let left = left_of(grammar, rule).unwrap_or(0);
-            let is_marked = self.productive.get(left) == Some(&true);
+            let is_marked = is_set(&self.productive, left);
             if !is_marked && all_marked(&self.productive, body_of(grammar, rule)) {
                 set(&mut self.productive, left, true);
                 grows = true;
@@ -53,9 +53,9 @@ impl Needed {
         let mut grows = false;
         for rule in 0..grammar.rules() {
             let left = left_of(grammar, rule).unwrap_or(0);
-            let is_meant = rule == 0 || self.symbols.get(left) == Some(&true);
+            let is_meant = rule == 0 || is_set(&self.symbols, left);
             let body = body_of(grammar, rule);
-            let is_marked = self.rules.get(rule) == Some(&true);
+            let is_marked = is_set(&self.rules, rule);
             if is_meant && !is_marked && all_marked(&self.productive, body) {
                 set(&mut self.rules, rule, true);
                 for symbol in body {
@@ -92,7 +92,7 @@ impl Needed {
 }
 
 /// Where each rule stands: in its body, or as an action there.
-fn rule_places(seen: Seen<'_>, bodies: &[Body<'_>]) -> Made<Vec<usize>> {
+fn rule_places(seen: &Seen<'_>, bodies: &[Body<'_>]) -> Made<Vec<usize>> {
     let mut places = vec![in seen.alloc; 0; seen.grammar().rules()]?;
     for body in bodies {
         set(&mut places, body.rule, body.at);
@@ -106,7 +106,7 @@ fn rule_places(seen: Seen<'_>, bodies: &[Body<'_>]) -> Made<Vec<usize>> {
 }
 
 /// Where the first rule of each nonterminal begins; an action within a body is its own.
-fn heads_of(seen: Seen<'_>, bodies: &[Body<'_>], places: &[usize]) -> Made<Vec<Option<usize>>> {
+fn heads_of(seen: &Seen<'_>, bodies: &[Body<'_>], places: &[usize]) -> Made<Vec<Option<usize>>> {
     let grammar = seen.grammar();
     let mut heads = vec![in seen.alloc; None; grammar.symbols()]?;
     for body in bodies {
@@ -125,7 +125,7 @@ fn heads_of(seen: Seen<'_>, bodies: &[Body<'_>], places: &[usize]) -> Made<Vec<O
 
 /// What is said of a useless nonterminal whose first rule stands at a place: of an action within a
 /// body by its number among all of the file.
-fn useless_at<'a>(seen: Seen<'a>, symbol: Sym, at: usize) -> What<'a> {
+fn useless_at<'a>(seen: &Seen<'a>, symbol: Sym, at: usize) -> What<'a> {
     let name = seen.name(symbol);
     let Some(digits) = name.strip_prefix(b"$$") else {
         return What::Nonterminal(name);
@@ -145,10 +145,10 @@ fn useless_at<'a>(seen: Seen<'a>, symbol: Sym, at: usize) -> What<'a> {
 }
 
 /// Whether sentences need the nonterminal whose name stands in a part of the file.
-fn is_needed(seen: Seen<'_>, needed: &Needed, span: Span) -> Made<bool> {
+fn is_needed(seen: &Seen<'_>, needed: &Needed, span: Span) -> Made<bool> {
     let kind = Form::Name;
     Ok(match seen.symbol(&Lexeme { kind, span })? {
-        Some(symbol) => needed.symbols.get(symbol) == Some(&true),
+        Some(symbol) => is_set(&needed.symbols, symbol),
         None => false,
     })
 }
@@ -156,7 +156,7 @@ fn is_needed(seen: Seen<'_>, needed: &Needed, span: Span) -> Made<bool> {
 /// Finds useless nonterminals, at their first rules; so many more that have no rules are useless
 /// too.
 fn find_nonterminals<'a>(
-    seen: Seen<'a>,
+    seen: &Seen<'a>,
     needed: &Needed,
     heads: &[Option<usize>],
     more: usize,
@@ -198,7 +198,7 @@ fn find_nonterminals<'a>(
 /// Finds useless nonterminals and rules, and rules that are never reduced; so many nonterminals
 /// more have no rules.
 pub fn find_useless<'a>(
-    seen: Seen<'a>,
+    seen: &Seen<'a>,
     bodies: &[Body<'a>],
     more: usize,
     found: &mut Vec<Finding<'a>>,
@@ -212,13 +212,13 @@ pub fn find_useless<'a>(
     for rule in 1..grammar.rules() {
         let at = places.get(rule).copied().unwrap_or(0);
         let left = left_of(grammar, rule).unwrap_or(0);
-        let is_needed = needed.rules.get(rule) == Some(&true);
-        if needed.symbols.get(left) != Some(&true) {
+        let is_needed = is_set(&needed.rules, rule);
+        if !is_set(&needed.symbols, left) {
             continue;
         }
         if !is_needed {
             found.push(warning(Kind::Other, at, What::Rule))?;
-        } else if walk.reduced.get(rule) != Some(&true) {
+        } else if !is_set(&walk.reduced, rule) {
             found.push(warning(Kind::Other, at, What::Lost))?;
         }
     }

@@ -3,7 +3,7 @@
 use crate::bodies::{Body, Cut, Entry};
 use crate::finding::{Finding, Seen, What, warning};
 use crate::kinds::Kind;
-use yexplain::reads::{Made, set};
+use yexplain::reads::{Made, is_set, set};
 use ylalr::ERROR;
 use yparts::parts::{Deed, Whose as Meant};
 use yskeleton::{Dialect, Piece, Whose, piece_at};
@@ -17,8 +17,8 @@ struct Uses {
 
 /// Notes what an action uses, which stands at a place of its body or at its end.
 fn note_uses<'a>(
-    seen: Seen<'a>,
-    body: Body<'a>,
+    seen: &Seen<'a>,
+    body: &Body<'a>,
     uses: &mut Uses,
     (text, own): (&'a [u8], Option<usize>),
 ) {
@@ -50,7 +50,7 @@ fn note_uses<'a>(
 }
 
 /// What the actions of a body use.
-fn uses_of<'a>(seen: Seen<'a>, body: Body<'a>, cut: &Cut<'a>) -> Made<Uses> {
+fn uses_of<'a>(seen: &Seen<'a>, body: &Body<'a>, cut: &Cut<'a>) -> Made<Uses> {
     let places = cut.entries.len().saturating_add(1);
     let mut uses = Uses {
         used: vec![in seen.alloc; false; places]?,
@@ -68,7 +68,7 @@ fn uses_of<'a>(seen: Seen<'a>, body: Body<'a>, cut: &Cut<'a>) -> Made<Uses> {
 
 /// Whether a value has code that is run where it is thrown away. Code for all symbols isn't for that
 /// of `error`, nor for that of an action within a body that is neither set nor used.
-fn is_destroyed(seen: Seen<'_>, entry: Entry<'_>, is_value: bool) -> bool {
+fn is_destroyed(seen: &Seen<'_>, entry: &Entry<'_>, is_value: bool) -> bool {
     let is_any = is_value && entry.symbol != Some(ERROR);
     for care in &seen.parts.cares {
         let is_meant = match care.whose {
@@ -86,8 +86,8 @@ fn is_destroyed(seen: Seen<'_>, entry: Entry<'_>, is_value: bool) -> bool {
 
 /// Finds the values of a body that are used in vain or never set.
 fn find_values<'a>(
-    seen: Seen<'a>,
-    body: Body<'a>,
+    seen: &Seen<'a>,
+    body: &Body<'a>,
     cut: &Cut<'a>,
     found: &mut Vec<Finding<'a>>,
 ) -> Made<()> {
@@ -98,16 +98,16 @@ fn find_values<'a>(
         action: b"",
         tag: seen.parts.tag_of(body.left),
     };
-    let is_set = uses.used.first() == Some(&true);
-    if cut.last.is_some() && !is_set && is_destroyed(seen, left, true) {
+    let is_left_set = is_set(&uses.used, 0);
+    if cut.last.is_some() && !is_left_set && is_destroyed(seen, &left, true) {
         found.push(warning(Kind::Other, body.at, What::Unset))?;
     }
     for (number, entry) in cut.entries.iter().enumerate() {
         let place = number.saturating_add(1);
-        let is_used = uses.used.get(place) == Some(&true);
-        let sets = uses.sets.get(place) == Some(&true);
+        let is_used = is_set(&uses.used, place);
+        let sets = is_set(&uses.sets, place);
         let is_inner = !entry.action.is_empty();
-        let is_kept = is_destroyed(seen, *entry, !is_inner || sets || is_used);
+        let is_kept = is_destroyed(seen, entry, !is_inner || sets || is_used);
         let kind = if is_kept {
             Kind::Other
         } else {
@@ -126,8 +126,8 @@ fn find_values<'a>(
 
 /// Finds what an action is wanting for in a body without one.
 fn find_default<'a>(
-    seen: Seen<'a>,
-    body: Body<'a>,
+    seen: &Seen<'a>,
+    body: &Body<'a>,
     cut: &Cut<'a>,
     found: &mut Vec<Finding<'a>>,
 ) -> Made<()> {
@@ -149,19 +149,19 @@ fn find_default<'a>(
 
 /// Finds what is to be said of the values of all bodies.
 pub fn find_in_bodies<'a>(
-    seen: Seen<'a>,
+    seen: &Seen<'a>,
     bodies: &[Body<'a>],
     found: &mut Vec<Finding<'a>>,
 ) -> Made<()> {
     for body in bodies {
         let cut = body.cut(seen)?;
         if cut.last.is_none() {
-            find_default(seen, *body, &cut, found)?;
+            find_default(seen, body, &cut, found)?;
         }
         if cut.entries.is_empty() && !cut.says_empty {
             found.push(warning(Kind::EmptyRule, body.at, What::Empty))?;
         }
-        find_values(seen, *body, &cut, found)?;
+        find_values(seen, body, &cut, found)?;
     }
     Ok(())
 }

@@ -2,7 +2,7 @@
 //! bison counts them.
 
 use std::alloc::Global;
-use yexplain::reads::{Made, action_of, candidates_of, goto_of, grammar_of, set, shift_of};
+use yexplain::reads::{Made, action_of, candidates_of, goto_of, grammar_of, is_set, set, shift_of};
 use ysymbols::Sym;
 use ytables::{Action, Class, Tables};
 
@@ -71,7 +71,7 @@ impl Walk {
 
     /// Whether a parse can come to a state.
     pub fn comes_to(&self, state: usize) -> bool {
-        self.is_reached.get(state) == Some(&true)
+        is_set(&self.is_reached, state)
     }
 
     /// Looks at a state.

@@ -28,20 +28,20 @@ pub struct CellText<'a> {
 }
 
 impl<'a> CellText<'a> {
-    fn name(self) -> Name<'a> {
+    fn name(&self) -> Name<'a> {
         Name(self.peer.grammar(), self.other.token)
     }
 
-    fn numbered(self, rule: usize) -> Numbered<'a> {
+    fn numbered(&self, rule: usize) -> Numbered<'a> {
         Numbered(self.lines, rule)
     }
 
-    fn text(self, rule: usize) -> RuleText<'a> {
+    fn text(&self, rule: usize) -> RuleText<'a> {
         RuleText(self.peer.grammar(), rule)
     }
 
     /// What is said of a rule: at its place, where it has one.
-    fn of_rule(self, alloc: Global, rule: usize) -> io::Result<Diagnostic> {
+    fn of_rule(&self, alloc: Global, rule: usize) -> io::Result<Diagnostic> {
         let spot = self.lines.spot(rule).unwrap_or(Spot {
             line: 1,
             column: None,
@@ -50,7 +50,7 @@ impl<'a> CellText<'a> {
     }
 
     /// Says what bison does.
-    fn say_peer(self, one: &mut Diagnostic) -> io::Result<()> {
+    fn say_peer(&self, one: &mut Diagnostic) -> io::Result<()> {
         match (self.other.left.shift, self.other.left.first) {
             (false, Some(rule)) => {
                 write!(one.message, "bison reduces by {}", self.numbered(rule))
@@ -61,7 +61,7 @@ impl<'a> CellText<'a> {
 
     /// That a file is refused for a rule of the token's level that bison doesn't compare, since
     /// another wins before.
-    fn passed(self, alloc: Global, rule: usize, winner: usize) -> io::Result<Diagnostic> {
+    fn passed(&self, alloc: Global, rule: usize, winner: usize) -> io::Result<Diagnostic> {
         let (name, state) = (self.name(), self.other.state);
         let (number, text) = (self.numbered(rule), self.text(rule));
         let mut one = self.of_rule(alloc, rule)?;
@@ -81,7 +81,7 @@ impl<'a> CellText<'a> {
     }
 
     /// That a file is refused for a rule of the token's level, which is one of `%precedence`.
-    fn equal(self, alloc: Global, rule: usize, level: Span) -> io::Result<Diagnostic> {
+    fn equal(&self, alloc: Global, rule: usize, level: Span) -> io::Result<Diagnostic> {
         let (name, state, source) = (self.name(), self.other.state, self.source);
         let mut one = at_place(alloc, source.path, source.spot(level), (b"%precedence", ""))?;
         write!(
@@ -101,7 +101,7 @@ impl<'a> CellText<'a> {
 
     /// What comes of an end that was taken out of a rule: the file is refused, or bison has a
     /// conflict of another kind.
-    fn ended(self, alloc: Global, rule: usize, is_refused: bool) -> io::Result<Diagnostic> {
+    fn ended(&self, alloc: Global, rule: usize, is_refused: bool) -> io::Result<Diagnostic> {
         let state = self.other.state;
         let first = self.other.left.first.unwrap_or(rule);
         let mut one = match self.peer.end_of(rule).and_then(|end| self.ends.get(end)) {
@@ -127,7 +127,7 @@ impl<'a> CellText<'a> {
     }
 
     /// Why a file is refused for a cell in which bison does something else.
-    pub fn refused(self, alloc: Global) -> io::Result<Diagnostic> {
+    pub fn refused(&self, alloc: Global) -> io::Result<Diagnostic> {
         let left = self.other.left;
         if let Some(rule) = left.ended {
             return self.ended(alloc, rule, true);
@@ -150,7 +150,7 @@ impl<'a> CellText<'a> {
     }
 
     /// That a cell has a conflict to bison and none here, or one of another kind.
-    pub fn conflict(self, alloc: Global) -> io::Result<Diagnostic> {
+    pub fn conflict(&self, alloc: Global) -> io::Result<Diagnostic> {
         let left = self.other.left;
         if let Some(rule) = left.ended {
             return self.ended(alloc, rule, false);

@@ -99,7 +99,7 @@ fn written(alloc: Global, page: Page<Vec<u8>>) -> io::Result<String> {
 
 impl Maker<'_> {
     /// What is said of each list.
-    fn ways(self, finding: &Finding) -> io::Result<Vec<String>> {
+    fn ways(&self, finding: &Finding) -> io::Result<Vec<String>> {
         let mut ways = Vec::new(self.alloc);
         let text = ListText {
             tables: self.tables,
@@ -118,7 +118,7 @@ impl Maker<'_> {
     }
 
     /// The card of a block.
-    fn card(self, block: &Block, finding: &Finding) -> io::Result<Card> {
+    fn card(&self, block: &Block, finding: &Finding) -> io::Result<Card> {
         let rules = Vec::from_slice(self.alloc, self.kind.rules())?;
         let taken = usize::from(!self.kind.shift);
         let all = self.kind.rivals.saturating_add(taken);

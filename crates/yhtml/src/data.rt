@@ -5,7 +5,6 @@ use crate::cells::{Cell, cells_of};
 use crate::input::Input;
 use crate::record::Record;
 use crate::table::{Looks, Table, states_of};
-use indexmap::IndexSet;
 use serde::Serialize;
 use std::alloc::Global;
 use std::io::{self, ErrorKind};
@@ -86,9 +85,7 @@ impl<'a> Shown<'a> {
     pub fn json(self, alloc: Global) -> io::Result<Vec<u8>> {
         let Opened { tables, lines } = self.opened;
         let numbers = self.states(alloc)?;
-        let mut looks = Looks {
-            all: IndexSet::new(alloc),
-        };
+        let mut looks = Looks::new(alloc);
         let states = states_of(alloc, tables.automaton(), &numbers, &mut looks)?;
         let data = Data {
             files: self.files,

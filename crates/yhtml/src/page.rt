@@ -71,7 +71,7 @@ fn put_steps<F: Files + AllocGlobal, W: Write, E: Write>(
         opened: &opened,
         input: &input,
         record: &trail.record,
-        asked: trail.cells.as_slice(),
+        asked: trail.cells.all(),
         conflicts: cards.as_ref(),
     };
     let page = page_of(alloc, &shown.json(alloc)?)?;

@@ -1,8 +1,8 @@
 //! The grammar and the states as the page has them, all by number.
 
-use indexmap::IndexSet;
 use serde::Serialize;
 use std::alloc::Global;
+use std::collections::HashMap;
 use yexplain::lines::Lines;
 use yexplain::reads::{
     Made, body_of, grammar_of, is_complete, is_kernel, items_of, left_of, looks_at,
@@ -42,13 +42,36 @@ impl Drop for Table<'_> {
 /// Lists of lookaheads, each once.
 pub struct Looks {
     /// The lists.
-    pub all: IndexSet<Vec<Sym>>,
+    pub all: Vec<Vec<Sym>>,
+    /// The place of each among them.
+    places: HashMap<Vec<Sym>, usize>,
 }
 
 impl Drop for Looks {
     // A call in each owner, which keeps their proofs short.
     fn drop(self) {
-        let_go!(self: Looks { all });
+        let_go!(self: Looks { all, places });
+    }
+}
+
+impl Looks {
+    /// No lists.
+    pub fn new(alloc: Global) -> Looks {
+        Looks {
+            all: Vec::new(alloc),
+            places: HashMap::new(alloc),
+        }
+    }
+
+    /// The place of a list, which is added where it isn't there.
+    fn place(&mut self, alloc: Global, list: Vec<Sym>) -> Made<usize> {
+        if let Some(place) = self.places.get(&list).copied() {
+            return Ok(place);
+        }
+        let place = self.all.len();
+        self.all.push(Vec::from_slice(alloc, &list)?)?;
+        self.places.insert(list, place)?;
+        Ok(place)
     }
 }
 
@@ -79,7 +102,7 @@ pub fn states_of(
             }
             if is_complete(automaton.grammar(), *item) {
                 let tokens = looks_of(alloc, automaton, *number, *item)?;
-                complete.push((item.rule, looks.all.insert_full(tokens)?.0))?;
+                complete.push((item.rule, looks.place(alloc, tokens)?))?;
             }
         }
         states.push((*number, items, complete))?;

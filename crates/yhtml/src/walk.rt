@@ -1,9 +1,9 @@
 //! The walk over the steps that are shown.
 
 use crate::record::{Record, Start};
-use indexmap::IndexSet;
 use std::alloc::Global;
 use std::io::{self, ErrorKind};
+use yexplain::distinct::Distinct;
 use yexplain::reads::Made;
 use yinput::Parse;
 use yinput::expected::{Wanted, expected_within};
@@ -34,7 +34,7 @@ pub struct Trail {
     /// The steps.
     pub record: Record,
     /// The cells that they asked, each a state and a token.
-    pub cells: IndexSet<(usize, Sym)>,
+    pub cells: Distinct<(usize, Sym)>,
 }
 
 impl Drop for Trail {
@@ -87,7 +87,7 @@ impl Walk<'_> {
         let mut number = None;
         if session.view().mode() == Mode::Running {
             let cell = (session.state(), token_ahead(session));
-            number = Some(self.trail.cells.insert_full(cell)?.0);
+            number = Some(self.trail.cells.add(cell)?.0);
         }
         self.trail.record.cells.push(number)?;
         Ok(())
@@ -151,7 +151,7 @@ fn walk_on(alloc: Global, parse: &mut Parse, most: usize) -> io::Result<Walked> 
     };
     let mut trail = Trail {
         record,
-        cells: IndexSet::new(alloc),
+        cells: Distinct::new(alloc),
     };
     let mut walk = Walk {
         alloc,

@@ -5,7 +5,7 @@ use crate::grammars::used_in;
 use std::alloc::Global;
 use std::io;
 use std::rt::Files;
-use yexplain::reads::{Made, grammar_of};
+use yexplain::reads::{Made, grammar_of, is_set};
 use yfiles::reading::{LONGEST_SPEC, Limited};
 use ylex::lexer::Lexer;
 use ylex::spec::{needs_line, read_spec};
@@ -16,7 +16,7 @@ use ytables::Tables;
 fn ungiven(alloc: Global, grammar: &Grammar, lexer: &Lexer) -> Made<Vec<What>> {
     let (used, mut found) = (used_in(alloc, grammar)?, Vec::new(alloc));
     for (token, is_used) in used.iter().enumerate() {
-        if *is_used && lexer.named.get(token) != Some(&true) && needs_line(grammar, token) {
+        if *is_used && !is_set(&lexer.named, token) && needs_line(grammar, token) {
             found.push(What::Ungiven(token))?;
         }
     }

@@ -7,7 +7,7 @@ use crate::spelled::{Texts, plain_texts};
 use regex::Error;
 use regex::bytes::{Matcher, Regex};
 use std::alloc::{AllocError, Global};
-use yexplain::reads::{Made, name_of};
+use yexplain::reads::{Made, is_set, name_of};
 use ysymbols::{Grammar, Sym, let_go};
 use ytokens::tokens::Tokens;
 
@@ -138,7 +138,7 @@ impl Lexer {
         let mut literals = Vec::new(alloc);
         for value in 0..=255u8 {
             let literal = grammar.find_literal(value);
-            let literal = literal.filter(|token| absent.get(*token) != Some(&true));
+            let literal = literal.filter(|token| !is_set(&absent, *token));
             literals.push(literal)?;
         }
         let (mut tokens, mut regexes) = (Vec::new(alloc), Vec::new(alloc));

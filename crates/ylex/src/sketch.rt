@@ -2,7 +2,7 @@
 
 use crate::spec::needs_line;
 use std::io::{self, Write};
-use yexplain::reads::name_of;
+use yexplain::reads::{is_set, name_of};
 use yexplain::text::Name;
 use ysymbols::{Grammar, Sym};
 
@@ -55,7 +55,7 @@ fn is_of(grammar: &Grammar, used: &[bool], token: Sym, kind: Kind) -> bool {
     } else {
         Kind::Open
     };
-    used.get(token) == Some(&true) && needs_line(grammar, token) && own == kind
+    is_set(used, token) && needs_line(grammar, token) && own == kind
 }
 
 /// Writes what may be keywords, as lines that count once their first byte is taken away.

@@ -43,12 +43,12 @@ pub fn is_merged(finding: &Finding) -> bool {
 }
 
 impl<'a> ListText<'a> {
-    fn name(self) -> Name<'a> {
+    fn name(&self) -> Name<'a> {
         Name(grammar_of(self.tables), self.kind.token)
     }
 
     /// Writes that no list allows both rivals, where that is so.
-    pub fn put_merged<W: Write>(self, page: &mut Page<W>, finding: &Finding) {
+    pub fn put_merged<W: Write>(&self, page: &mut Page<W>, finding: &Finding) {
         if !is_merged(finding) {
             if finding.lists.iter().any(|list| list.allows != Allows::Both) {
                 page.line("  The search for a list of tokens that allows both took too long.");
@@ -77,7 +77,7 @@ impl<'a> ListText<'a> {
     }
 
     /// Writes a list, with the rules that it is for, and what a parse over it comes to.
-    pub fn put_list<W: Write>(self, page: &mut Page<W>, list: &List) {
+    pub fn put_list<W: Write>(&self, page: &mut Page<W>, list: &List) {
         if self.lists > 1 || list.allows != Allows::Both {
             page.put("  for");
             for (place, rule) in list.rules.iter().enumerate() {
@@ -95,19 +95,19 @@ impl<'a> ListText<'a> {
     }
 
     /// Writes the tokens of a list, a period, and the token after them.
-    fn put_tokens<W: Write>(self, page: &mut Page<W>, tokens: &[Sym]) {
+    fn put_tokens<W: Write>(&self, page: &mut Page<W>, tokens: &[Sym]) {
         let (names, name) = (Names(grammar_of(self.tables), tokens), self.name());
         let _ = writeln!(page, "  tokens {names} . {name}");
     }
 
     /// Writes that a parse does something in the state of the conflict, with its token ahead.
-    fn put_parse<W: Write>(self, page: &mut Page<W>, does: &str) {
+    fn put_parse<W: Write>(&self, page: &mut Page<W>, does: &str) {
         let name = self.name();
         let _ = write!(page, "  A parse {does} the state with {name} ahead");
     }
 
     /// Writes what a parse over a list comes to.
-    fn put_trial<W: Write>(self, page: &mut Page<W>, list: &List) {
+    fn put_trial<W: Write>(&self, page: &mut Page<W>, list: &List) {
         match list.trial {
             Trial::Reached(steps) => self.put_reached(page, steps),
             Trial::HasError => page.line(
@@ -135,7 +135,7 @@ impl<'a> ListText<'a> {
     }
 
     /// Writes that a parse comes to the state, in so many steps.
-    fn put_reached<W: Write>(self, page: &mut Page<W>, steps: usize) {
+    fn put_reached<W: Write>(&self, page: &mut Page<W>, steps: usize) {
         if steps == 0 {
             self.put_parse(page, "begins in");
         } else {
@@ -147,7 +147,7 @@ impl<'a> ListText<'a> {
     }
 
     /// Writes the next list with which a parse comes to the state.
-    fn put_other<W: Write>(self, page: &mut Page<W>, list: &List) {
+    fn put_other<W: Write>(&self, page: &mut Page<W>, list: &List) {
         match &list.other {
             Some((tokens, steps)) => {
                 page.put(match list.trial {

@@ -20,12 +20,12 @@ struct Classes<'a> {
 
 impl Classes<'_> {
     /// The class of a symbol.
-    fn class(self, symbol: Sym) -> Sym {
+    fn class(&self, symbol: Sym) -> Sym {
         self.of.get(symbol).copied().unwrap_or(symbol)
     }
 
     /// Whether two bodies are the same but for members of one class.
-    fn are_equal(self, one: &[Sym], other: &[Sym]) -> bool {
+    fn are_equal(&self, one: &[Sym], other: &[Sym]) -> bool {
         for (ours, theirs) in one.iter().zip(other) {
             if self.class(*ours) != self.class(*theirs) {
                 return false;
@@ -35,7 +35,7 @@ impl Classes<'_> {
     }
 
     /// Whether each body of a nonterminal is one of another nonterminal.
-    fn has_all(self, one: Sym, other: Sym) -> bool {
+    fn has_all(&self, one: Sym, other: Sym) -> bool {
         for rule in self.shortest.rules.of(one) {
             let body = body_of(self.grammar, *rule);
             let mut is_there = false;
@@ -50,7 +50,7 @@ impl Classes<'_> {
     }
 
     /// The class of a symbol after one more round, by the classes that others have got so far.
-    fn refined(self, next: &[Sym], symbol: Sym) -> Sym {
+    fn refined(&self, next: &[Sym], symbol: Sym) -> Sym {
         if self.grammar.is_token(symbol) || self.class(symbol) == symbol {
             return symbol;
         }

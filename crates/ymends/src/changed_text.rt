@@ -150,7 +150,7 @@ const FRESH: &[u8] = b"new.symbol";
 impl Changed<'_> {
     /// Writes a rule, with this after the name of its left side, and the token that gives it a
     /// precedence. An action stands for each symbol of the body that was made for one.
-    fn put_rule<W: Write>(self, out: &mut W, rule: usize, after: &[u8]) -> io::Result<()> {
+    fn put_rule<W: Write>(&self, out: &mut W, rule: usize, after: &[u8]) -> io::Result<()> {
         let (grammar, body) = (self.grammar, body_of(self.grammar, rule));
         out.write_all(name_of(grammar, left_of(grammar, rule).unwrap_or(0)))?;
         out.write_all(after)?;
@@ -184,7 +184,7 @@ impl Changed<'_> {
     }
 
     /// Writes the declarations, with lines of precedence that are new.
-    fn put_lines<W: Write>(self, out: &mut W) -> io::Result<()> {
+    fn put_lines<W: Write>(&self, out: &mut W) -> io::Result<()> {
         let grammar = self.grammar;
         match self.change {
             Change::Without(_) | Change::Copied { .. } => put_declarations(out, grammar, None),
@@ -223,7 +223,7 @@ impl Changed<'_> {
     }
 
     /// Writes the grammar, and after it the rules of a copy, which are those of its nonterminal.
-    pub fn put<W: Write>(self, out: &mut W) -> io::Result<()> {
+    pub fn put<W: Write>(&self, out: &mut W) -> io::Result<()> {
         let (grammar, change) = (self.grammar, self.change);
         self.put_lines(out)?;
         out.write_all(b"\n%%\n")?;
@@ -236,7 +236,7 @@ impl Changed<'_> {
             for rule in 1..grammar.rules() {
                 if left_of(grammar, rule) == Some(symbol) {
                     let change = Change::Without(rule);
-                    Changed { change, ..self }.put_rule(out, rule, COPY)?;
+                    Changed { change, ..*self }.put_rule(out, rule, COPY)?;
                 }
             }
         }
@@ -244,7 +244,7 @@ impl Changed<'_> {
     }
 
     /// Writes a symbol after a space, also a new one.
-    fn put_symbol<W: Write>(self, out: &mut W, symbol: Sym) -> io::Result<()> {
+    fn put_symbol<W: Write>(&self, out: &mut W, symbol: Sym) -> io::Result<()> {
         if symbol < self.grammar.symbols() {
             return put_name(out, self.grammar, symbol);
         }
@@ -253,7 +253,7 @@ impl Changed<'_> {
     }
 
     /// Writes the grammar with these rules in place of its own.
-    pub fn put_written<W: Write>(self, out: &mut W, rules: &[Written]) -> io::Result<()> {
+    pub fn put_written<W: Write>(&self, out: &mut W, rules: &[Written]) -> io::Result<()> {
         self.put_lines(out)?;
         out.write_all(b"\n%%\n")?;
         for rule in rules {

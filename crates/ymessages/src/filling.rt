@@ -62,7 +62,7 @@ fn put_tokens<W: Write>(out: &mut W, spoken: Spoken<'_>, tokens: &[Sym]) -> io::
 
 impl<'a> Filling<'a> {
     /// What stands in the text for the tokens from one place to another; nothing without a text.
-    fn bytes(self, start: usize, end: usize) -> &'a [u8] {
+    fn bytes(&self, start: usize, end: usize) -> &'a [u8] {
         let input = self.input;
         match &input.text {
             Some(text) if start < end => text_between(text, start, end).trim_ascii(),
@@ -72,7 +72,7 @@ impl<'a> Filling<'a> {
 
     /// Writes the tokens of the input from one place to another: as they stand in a text, unless
     /// these are blanks alone, or by what they are called.
-    fn put_part<W: Write>(self, out: &mut W, start: usize, end: usize) -> io::Result<()> {
+    fn put_part<W: Write>(&self, out: &mut W, start: usize, end: usize) -> io::Result<()> {
         let bytes = self.bytes(start, end);
         if bytes.is_empty() {
             let tokens = self.input.tokens.symbols.get(start..end);
@@ -84,14 +84,14 @@ impl<'a> Filling<'a> {
 
     /// Where the tokens of an entry begin, counted from the bottom; before the token that can't
     /// come, where there is no such entry.
-    fn start(self, index: usize) -> usize {
+    fn start(&self, index: usize) -> usize {
         let rejection = self.rejection;
         let start = rejection.starts.get(index).copied();
         start.unwrap_or(rejection.before())
     }
 
     /// Writes an entry of the stack, counted from 1 at the top; nothing where there is none.
-    fn put_entry<W: Write>(self, out: &mut W, number: usize) -> io::Result<()> {
+    fn put_entry<W: Write>(&self, out: &mut W, number: usize) -> io::Result<()> {
         let rejection = self.rejection;
         match rejection.starts.len().checked_sub(number) {
             Some(index) if index > 0 => {
@@ -103,7 +103,7 @@ impl<'a> Filling<'a> {
     }
 
     /// Writes a piece of a message.
-    fn put<W: Write>(self, out: &mut W, slot: Slot<'_>) -> io::Result<()> {
+    fn put<W: Write>(&self, out: &mut W, slot: Slot<'_>) -> io::Result<()> {
         match slot {
             Slot::Text(bytes) => out.write_all(bytes),
             // the token that can't come

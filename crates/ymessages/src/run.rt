@@ -196,7 +196,7 @@ fn put_inputs<W: Write>(out: &mut W, path: &str, messages: &Messages) -> io::Res
 /// can't be read, that is said, and the exit status is the answer.
 fn read_messages<F: Files + AllocGlobal>(
     rt: &F,
-    asked: Asked<'_>,
+    asked: &Asked<'_>,
     language: &Language,
     told: &mut Diagnostics,
 ) -> io::Result<Result<Messages, u8>> {
@@ -264,7 +264,7 @@ fn rewrite<F: Files + AllocGlobal, W: Write, E: Write>(
 /// one, and gives the exit status. The messages are written as data first, if that is asked for.
 fn check<F: Files + AllocGlobal, W: Write, E: Write>(
     rt: &F,
-    asked: Asked<'_>,
+    asked: &Asked<'_>,
     file: Limited<'_>,
     (language, messages): (Language, Messages),
     out: &mut W,
@@ -295,7 +295,7 @@ fn check<F: Files + AllocGlobal, W: Write, E: Write>(
 /// The exit status where what is written would be a file that is read.
 fn refused<F: Files + AllocGlobal, E: Write>(
     rt: &F,
-    asked: Asked<'_>,
+    asked: &Asked<'_>,
     errors: &mut E,
 ) -> io::Result<Option<u8>> {
     let grammar = asked.files.grammar.path;
@@ -312,7 +312,7 @@ fn refused<F: Files + AllocGlobal, E: Write>(
 /// Writes what is asked for by a language that is open, and gives the exit status.
 fn run_open<F: Files + AllocGlobal, W: Write, E: Write>(
     rt: &F,
-    asked: Asked<'_>,
+    asked: &Asked<'_>,
     language: Language,
     out: &mut W,
     errors: &mut E,
@@ -348,7 +348,7 @@ fn run_open<F: Files + AllocGlobal, W: Write, E: Write>(
 /// written, memory runs out, or there are too many states.
 pub fn run_errors<F: Files + AllocGlobal, W: Write, E: Write>(
     rt: &F,
-    asked: Asked<'_>,
+    asked: &Asked<'_>,
     out: &mut W,
     errors: &mut E,
 ) -> io::Result<u8> {

@@ -8,8 +8,8 @@ use crate::messages::Messages;
 use crate::refusal::put_came;
 use crate::sheet::{put_head, put_no_text, put_state, put_tail, put_tokens};
 use crate::written::line_of;
-use indexmap::IndexSet;
 use std::alloc::{AllocError, Global};
+use std::collections::HashMap;
 use std::io::{self, Write};
 use yerrors::confirm::{Confirmed, confirm, reductions};
 use yerrors::errors::Errors;
@@ -49,8 +49,8 @@ pub struct Update<'a> {
 
 /// States in groups: those at which the same tokens could come stand together.
 struct Groups {
-    /// What the states of each group have in common.
-    keys: IndexSet<Vec<usize>>,
+    /// The place of each group, by what its states have in common.
+    keys: HashMap<Vec<usize>, usize>,
     /// The groups.
     all: Vec<Vec<usize>>,
 }
@@ -65,10 +65,15 @@ impl Drop for Groups {
 impl Groups {
     /// Puts a state into its group.
     fn put(&mut self, alloc: Global, key: Vec<usize>, state: usize) -> Made<()> {
-        let (place, is_new) = self.keys.insert_full(key)?;
-        if is_new {
-            self.all.push(Vec::new(alloc))?;
-        }
+        let place = match self.keys.get(&key).copied() {
+            Some(place) => place,
+            None => {
+                let place = self.all.len();
+                self.all.push(Vec::new(alloc))?;
+                self.keys.insert(key, place)?;
+                place
+            }
+        };
         if let Some(group) = self.all.get_mut(place) {
             group.push(state)?;
         }
@@ -119,7 +124,7 @@ fn list_in(errors: &Errors, state: usize) -> Option<&Confirmed> {
 
 impl<'a> Update<'a> {
     /// Writes the comments of the input of a number.
-    fn put_claim<W: Write>(self, page: &mut Page<W>, number: usize, claim: &Claim) {
+    fn put_claim<W: Write>(&self, page: &mut Page<W>, number: usize, claim: &Claim) {
         if self.writer.is_some() {
             put_tokens(page, grammar_of(self.tables), claim.input.list());
         }
@@ -141,7 +146,7 @@ impl<'a> Update<'a> {
     }
 
     /// What a session has of the input before the one of a number, where that is in the same part.
-    fn before(self, number: usize, part: usize) -> Option<&'a Confirmed> {
+    fn before(&self, number: usize, part: usize) -> Option<&'a Confirmed> {
         let place = number.checked_sub(1)?;
         let (messages, confirmed) = (self.messages, self.confirmed);
         let claim = messages.claims.all.get(place)?;
@@ -153,7 +158,7 @@ impl<'a> Update<'a> {
     }
 
     /// Writes a line of a part, and the comments of an input after it.
-    fn put_line<W: Write>(self, page: &mut Page<W>, line: Span) {
+    fn put_line<W: Write>(&self, page: &mut Page<W>, line: Span) {
         let _ = page.write_all(line.of(&self.messages.bytes));
         page.end();
         if is_comment(line.of(&self.messages.bytes)) {
@@ -169,7 +174,7 @@ impl<'a> Update<'a> {
     }
 
     /// Writes a message after the inputs of its block, and whether it is still the first one.
-    fn put_message<W: Write>(self, page: &mut Page<W>, message: &[u8]) {
+    fn put_message<W: Write>(&self, page: &mut Page<W>, message: &[u8]) {
         if message == FIRST {
             page.line("## new");
         }
@@ -179,7 +184,7 @@ impl<'a> Update<'a> {
     }
 
     /// Writes a part of the file.
-    fn put_part<W: Write>(self, page: &mut Page<W>, part: &Part) {
+    fn put_part<W: Write>(&self, page: &mut Page<W>, part: &Part) {
         for line in &part.lines {
             self.put_line(page, *line);
         }
@@ -190,7 +195,7 @@ impl<'a> Update<'a> {
     }
 
     /// The list of a state that is new: no input of the file claims it.
-    pub fn new_list(self, state: usize) -> Option<&'a Confirmed> {
+    pub fn new_list(&self, state: usize) -> Option<&'a Confirmed> {
         let (errors, messages) = (self.errors, self.messages);
         if messages.claims.owner(state).is_some() {
             return None;
@@ -200,7 +205,7 @@ impl<'a> Update<'a> {
     }
 
     /// The line of the input of a list; `None` where it is to be a text, and none is found.
-    pub fn line(self, confirmed: &Confirmed) -> io::Result<Option<Vec<u8>>> {
+    pub fn line(&self, confirmed: &Confirmed) -> io::Result<Option<Vec<u8>>> {
         let inputs = Inputs {
             tables: self.tables,
             lexer: self.writer.map(|writer| &writer.lexer),
@@ -212,9 +217,9 @@ impl<'a> Update<'a> {
 
     /// The states that are new, in groups: those at which the same tokens could come stand together,
     /// unless each is wanted alone.
-    fn groups(self) -> Made<Vec<Vec<usize>>> {
+    fn groups(&self) -> Made<Vec<Vec<usize>>> {
         let mut groups = Groups {
-            keys: IndexSet::new(self.alloc),
+            keys: HashMap::new(self.alloc),
             all: Vec::new(self.alloc),
         };
         for state in 0..self.errors.outcomes.len() {
@@ -235,7 +240,7 @@ impl<'a> Update<'a> {
 
     /// Writes the input of this line for a state, after that of another one of its block.
     fn put_input<W: Write>(
-        self,
+        &self,
         page: &mut Page<W>,
         line: &[u8],
         (state, confirmed): (usize, &Confirmed),
@@ -252,7 +257,7 @@ impl<'a> Update<'a> {
 
     /// Writes what there is of states that are new: a block, and comments for each for which no
     /// text is found.
-    fn put_group<W: Write>(self, page: &mut Page<W>, states: &[usize]) -> io::Result<New> {
+    fn put_group<W: Write>(&self, page: &mut Page<W>, states: &[usize]) -> io::Result<New> {
         let (mut before, mut told, mut silent) = (None, 0usize, Vec::new(self.alloc));
         for state in states {
             let Some(confirmed) = self.new_list(*state) else {
@@ -285,7 +290,7 @@ impl<'a> Update<'a> {
     }
 
     /// Writes the blocks of the states that are new.
-    fn put_new<W: Write>(self, page: &mut Page<W>) -> io::Result<New> {
+    fn put_new<W: Write>(&self, page: &mut Page<W>) -> io::Result<New> {
         let (mut told, mut untold): (usize, usize) = (0, 0);
         for states in &self.groups()? {
             let new = self.put_group(page, states)?;
@@ -296,7 +301,7 @@ impl<'a> Update<'a> {
     }
 
     /// Writes the file, and says what states are new.
-    pub fn put<W: Write>(self, page: &mut Page<W>) -> io::Result<New> {
+    pub fn put<W: Write>(&self, page: &mut Page<W>) -> io::Result<New> {
         let texts = self.writer.is_some();
         put_head(page, self.path, self.tables, self.errors, texts);
         for part in &self.messages.parts {

@@ -25,6 +25,7 @@ enum Variable {
     FileName,
     Compares,
     Values,
+    Variant,
     UnionName,
     LocationType,
     Include,
@@ -37,7 +38,7 @@ enum Variable {
 }
 
 /// The variables that are known.
-const VARIABLES: [(&str, Variable); 36] = [
+const VARIABLES: [(&str, Variable); 39] = [
     ("api.pure", Variable::Pure),
     ("parse.error", Variable::Errors),
     ("parse.trace", Variable::Trace),
@@ -47,6 +48,7 @@ const VARIABLES: [(&str, Variable); 36] = [
     ("locations", Variable::Locations),
     ("api.prefix", Variable::ApiPrefix),
     ("api.token.prefix", Variable::TokenPrefix),
+    ("api.tokens.prefix", Variable::TokenPrefix),
     ("api.symbol.prefix", Variable::SymbolPrefix),
     ("api.token.raw", Variable::Raw),
     ("api.token.constructor", Variable::Constructors),
@@ -62,6 +64,8 @@ const VARIABLES: [(&str, Variable); 36] = [
     ("filename_type", Variable::FileName),
     ("define_location_comparison", Variable::Compares),
     ("api.value.type", Variable::Values),
+    ("stype", Variable::Values),
+    ("variant", Variable::Variant),
     ("api.value.union.name", Variable::UnionName),
     ("api.location.type", Variable::LocationType),
     ("location_type", Variable::LocationType),
@@ -198,6 +202,7 @@ impl<'a> Options<'a> {
             Variable::SymbolPrefix => self.symbol_prefix = Some(value),
             Variable::Raw => self.raw = switch(value)?,
             Variable::Values => self.values = values(value, is_code)?,
+            Variable::Variant => self.values = Values::Variant,
             Variable::UnionName => self.union_name = Some(value),
             Variable::LocationType => self.location_type = Some(value),
             Variable::Include => self.include = Some(value),
@@ -226,7 +231,9 @@ impl<'a> Options<'a> {
             };
         }
         match variable {
-            Variable::Values if self.values == Values::Variant => Some(Refusal::Variant),
+            Variable::Values | Variable::Variant if self.values == Values::Variant => {
+                Some(Refusal::Variant)
+            }
             Variable::Namespace
             | Variable::Class
             | Variable::Constructors

@@ -60,7 +60,7 @@ fn begin<W: Write>(page: &mut Page<W>, level: usize) {
 
 impl AmbiguityText<'_> {
     /// Writes a rival; at the end of its sentence nothing is left to be shifted.
-    fn put_choice<W: Write>(self, page: &mut Page<W>, choice: Choice, sentence: &Sentence) {
+    fn put_choice<W: Write>(&self, page: &mut Page<W>, choice: Choice, sentence: &Sentence) {
         match choice {
             Choice::Shift if sentence.dot >= sentence.tokens.len() => {
                 page.put("  by the acceptance:");
@@ -75,7 +75,7 @@ impl AmbiguityText<'_> {
     }
 
     /// Writes the tokens of a sentence with a period where the conflict is, and ends the line.
-    fn put_tokens<W: Write>(self, page: &mut Page<W>, sentence: &Sentence) {
+    fn put_tokens<W: Write>(&self, page: &mut Page<W>, sentence: &Sentence) {
         let (tokens, dot) = (sentence.tokens.as_slice(), sentence.dot);
         let before = Names(self.grammar, tokens.get(..dot).unwrap_or(tokens));
         let after = Names(self.grammar, tokens.get(dot..).unwrap_or(&[]));
@@ -87,7 +87,7 @@ impl AmbiguityText<'_> {
     }
 
     /// Writes where the tables refuse a sentence, where they do: what is taken loses it.
-    fn put_refused<W: Write>(self, page: &mut Page<W>, sentence: &Sentence) {
+    fn put_refused<W: Write>(&self, page: &mut Page<W>, sentence: &Sentence) {
         match sentence.refused {
             Some(place) if place > sentence.tokens.len() => {
                 page.line("    The tables refuse it at its end.");
@@ -102,7 +102,7 @@ impl AmbiguityText<'_> {
     }
 
     /// Writes a leaf, on the line of the leaves beside it.
-    fn put_leaf<W: Write>(self, page: &mut Page<W>, drawn: &mut Drawn, level: usize, symbol: Sym) {
+    fn put_leaf<W: Write>(&self, page: &mut Page<W>, drawn: &mut Drawn, level: usize, symbol: Sym) {
         if drawn.line == Some(level) {
             page.put(" ");
         } else {
@@ -123,7 +123,7 @@ impl AmbiguityText<'_> {
     }
 
     /// Writes the root of a tree: its left side and its rule.
-    fn put_root<W: Write>(self, page: &mut Page<W>, drawn: &mut Drawn, level: usize, node: Node) {
+    fn put_root<W: Write>(&self, page: &mut Page<W>, drawn: &mut Drawn, level: usize, node: Node) {
         drawn.end_line(page);
         begin(page, level);
         page.show(Name(self.grammar, node.symbol));
@@ -137,7 +137,7 @@ impl AmbiguityText<'_> {
 
     /// Draws a tree: each rule on a line, its children below it, leaves beside one another.
     fn put_tree<W: Write>(
-        self,
+        &self,
         alloc: Global,
         page: &mut Page<W>,
         tree: usize,
@@ -172,7 +172,7 @@ impl AmbiguityText<'_> {
     }
 
     /// Puts the children of a tree on those that are to be drawn, the first one last.
-    fn push_children(self, open: &mut Vec<(usize, usize)>, level: usize, tree: usize) -> Made<()> {
+    fn push_children(&self, open: &mut Vec<(usize, usize)>, level: usize, tree: usize) -> Made<()> {
         for child in self.trees.children(tree).iter().rev() {
             open.push((level.saturating_add(1), *child))?;
         }
@@ -180,7 +180,12 @@ impl AmbiguityText<'_> {
     }
 
     /// Writes a sentence with two trees.
-    pub fn put_twins<W: Write>(self, alloc: Global, page: &mut Page<W>, twins: &Twins) -> Made<()> {
+    pub fn put_twins<W: Write>(
+        &self,
+        alloc: Global,
+        page: &mut Page<W>,
+        twins: &Twins,
+    ) -> Made<()> {
         page.put("  The grammar is ambiguous: two trees for ");
         self.put_tokens(page, &twins.sentence);
         self.put_choice(page, twins.sentence.choice, &twins.sentence);
@@ -193,7 +198,7 @@ impl AmbiguityText<'_> {
 
     /// Writes the sentences of rivals for which none is written yet.
     pub fn put_apart<W: Write>(
-        self,
+        &self,
         page: &mut Page<W>,
         answer: &Answer,
         written: &mut Vec<Choice>,

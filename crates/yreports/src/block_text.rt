@@ -64,7 +64,7 @@ fn put_also<W: Write>(page: &mut Page<W>, class: &Class) {
 
 impl BlockText<'_> {
     /// Writes the tokens of conflicts on lines of their own.
-    fn put_tokens<W: Write>(self, page: &mut Page<W>, entries: &[Entry]) {
+    fn put_tokens<W: Write>(&self, page: &mut Page<W>, entries: &[Entry]) {
         let grammar = grammar_of(self.tables);
         page.spaces(INDENT - 1);
         for entry in entries {
@@ -81,7 +81,7 @@ impl BlockText<'_> {
     }
 
     /// Writes the tokens and numbers of conflicts after some words.
-    fn put_others<W: Write>(self, page: &mut Page<W>, entries: &[Entry], words: (&str, &str)) {
+    fn put_others<W: Write>(&self, page: &mut Page<W>, entries: &[Entry], words: (&str, &str)) {
         page.put(words.0);
         page.count(entries.len(), "other token", "other tokens");
         page.put(words.1);
@@ -95,7 +95,7 @@ impl BlockText<'_> {
     }
 
     /// Writes how to choose otherwise in a class of conflicts, where that is offered.
-    fn put_choice<W: Write>(self, page: &mut Page<W>, class: &Class) {
+    fn put_choice<W: Write>(&self, page: &mut Page<W>, class: &Class) {
         if let (true, Some(entry)) = (self.offer.has_hints(), class.entries.first()) {
             let _ = entry.cell(self.tables, self.lines).put_hint(page);
             put_also(page, class);
@@ -107,7 +107,7 @@ impl BlockText<'_> {
     }
 
     /// Writes why no hints are offered, where none are.
-    pub fn put_offer<W: Write>(self, page: &mut Page<W>) {
+    pub fn put_offer<W: Write>(&self, page: &mut Page<W>) {
         for reason in self.offer.reasons() {
             page.put("  ");
             page.line(reason);
@@ -116,7 +116,7 @@ impl BlockText<'_> {
 
     /// Writes the first conflict of a block, why it is settled so, and on which tokens it is the
     /// same.
-    pub fn put<W: Write>(self, page: &mut Page<W>, block: &Block) {
+    pub fn put<W: Write>(&self, page: &mut Page<W>, block: &Block) {
         let entry = block.first;
         page.end();
         put_front(page, self.path, entry.kind.spot(self.lines));
@@ -128,7 +128,7 @@ impl BlockText<'_> {
     }
 
     /// Writes why the first conflict of a block is settled so, and on which tokens it is the same.
-    pub fn put_reasons<W: Write>(self, page: &mut Page<W>, block: &Block) {
+    pub fn put_reasons<W: Write>(&self, page: &mut Page<W>, block: &Block) {
         let entry = block.first;
         let _ = entry.cell(self.tables, self.lines).put_reason(page);
         if let Some(class) = block.classes.first() {
@@ -142,7 +142,7 @@ impl BlockText<'_> {
     }
 
     /// Writes on one line that the conflicts of a block come of the same cause as one before.
-    pub fn put_as<W: Write>(self, page: &mut Page<W>, block: &Block, number: usize) {
+    pub fn put_as<W: Write>(&self, page: &mut Page<W>, block: &Block, number: usize) {
         let grammar = grammar_of(self.tables);
         put_front(page, self.path, block.first.kind.spot(self.lines));
         let mut count: usize = 0;
@@ -172,7 +172,7 @@ impl BlockText<'_> {
     }
 
     /// Writes what is said on the tokens of a block on which it is otherwise than on the first one.
-    pub fn put_further<W: Write>(self, page: &mut Page<W>, block: &Block) {
+    pub fn put_further<W: Write>(&self, page: &mut Page<W>, block: &Block) {
         for class in block.classes.get(1..).unwrap_or(&[]) {
             self.put_others(page, &class.entries, ("  Also on ", ", "));
             if let Some(entry) = class.entries.first() {

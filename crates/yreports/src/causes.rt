@@ -3,10 +3,10 @@
 
 use crate::covered::{Covered, covered_of};
 use crate::tried::{Marks, Tried, counted, tried_of};
-use indexmap::IndexMap;
 use std::alloc::Global;
+use yexplain::distinct::Distinct;
 use yexplain::lines::{Lines, is_inner};
-use yexplain::reads::{Made, grammar_of, level_of, set};
+use yexplain::reads::{Made, grammar_of, is_set, level_of, set};
 use ylalr::END;
 use ymends::idioms::idioms_of;
 use ymends::mending::MOST_STATES;
@@ -47,7 +47,7 @@ pub struct Causes {
     /// Changes that settle some, each with those before it.
     pub changes: Vec<Change>,
     /// How many conflicts are between each two rules, whatever precedences they have.
-    pub pairs: IndexMap<(usize, usize), usize>,
+    pub pairs: Vec<((usize, usize), usize)>,
     /// Rules of these pairs that others cover.
     pub covered: Vec<Covered>,
 }
@@ -61,15 +61,20 @@ impl Drop for Causes {
 
 impl Causes {
     /// Counts the conflicts between each two rules in cells that can't be shifted.
-    fn count_pairs(&mut self, found: &Conflicts) -> Made<()> {
+    fn count_pairs(&mut self, alloc: Global, found: &Conflicts) -> Made<()> {
+        let mut met = Distinct::new(alloc);
         for (kind, group) in &found.groups {
             let Some(taken) = kind.taken() else {
                 continue;
             };
             for rule in kind.others() {
-                let before = self.pairs.get(&(taken, *rule)).copied().unwrap_or(0);
-                let all = before.saturating_add(group.states);
-                self.pairs.insert((taken, *rule), all)?;
+                let (place, is_new) = met.add((taken, *rule))?;
+                if is_new {
+                    self.pairs.push(((taken, *rule), 0))?;
+                }
+                if let Some((_, count)) = self.pairs.get_mut(place) {
+                    *count = count.saturating_add(group.states);
+                }
             }
         }
         Ok(())
@@ -188,7 +193,7 @@ fn changes_of(
         for rule in contest.rules().unwrap_or(&[]) {
             match lines.giver(grammar, *rule) {
                 Some(giver) => classes.note(grammar, contest.token, giver),
-                None if barred.get(*rule) == Some(&true) => {}
+                None if is_set(barred, *rule) => {}
                 None => push_own(alloc, grammar, &mut changes, *rule, contest.token)?,
             }
         }
@@ -332,10 +337,10 @@ pub fn causes_of(
     let mut causes = Causes {
         all,
         changes,
-        pairs: IndexMap::new(alloc),
+        pairs: Vec::new(alloc),
         covered: Vec::new(alloc),
     };
-    causes.count_pairs(found)?;
+    causes.count_pairs(alloc, found)?;
     causes.cover(alloc, tables, lines)?;
     Ok(Some(causes))
 }

@@ -4,7 +4,7 @@ use crate::unused::Done;
 use std::alloc::Global;
 use std::io;
 use yexplain::lines::{Lines, Mention, Spot};
-use yexplain::reads::{Made, grammar_of, is_reachable, left_of, level_of, set};
+use yexplain::reads::{Made, grammar_of, is_reachable, is_set, left_of, level_of, set};
 use yexplain::text::{Name, RuleText};
 use yfiles::category::Category;
 use yfiles::diagnostic::{Diagnostic, Diagnostics, Severity};
@@ -70,7 +70,7 @@ impl Named {
     }
 
     fn is_used(&self, symbol: Sym) -> bool {
-        self.used.get(symbol) == Some(&true)
+        is_set(&self.used, symbol)
     }
 
     fn spot(&self, symbol: Sym) -> Option<Spot> {
@@ -181,7 +181,7 @@ impl Warner<'_> {
     fn add_unreachable(&mut self, named: &Named) -> io::Result<()> {
         for symbol in 0..self.grammar.symbols() {
             let is_left = !self.grammar.is_token(symbol);
-            let is_in_rules = is_left || named.in_body.get(symbol) == Some(&true);
+            let is_in_rules = is_left || is_set(&named.in_body, symbol);
             let spot = named.spot(symbol);
             let is_meant = is_in_rules && spot.is_some();
             if is_meant && symbol != ERROR && !is_reachable(self.grammar, symbol) {

@@ -3,8 +3,8 @@
 
 use crate::queue::Queue;
 use crate::shortest::Shortest;
-use indexmap::IndexSet;
 use std::alloc::Global;
+use yexplain::distinct::Distinct;
 use yexplain::reads::{Made, body_of, has_item, is_kernel, items_of, left_of};
 use ylalr::{Automaton, Item};
 use ysymbols::{Grammar, Sym, let_go};
@@ -49,7 +49,7 @@ struct Search<'a> {
     most: u64,
     nodes: Vec<Node>,
     /// With `Ties::First` the spot of each node; else the spots that were left.
-    spots: IndexSet<Spot>,
+    spots: Distinct<Spot>,
     queue: Queue,
     /// How many items were looked at.
     looked: usize,
@@ -100,7 +100,7 @@ impl Search<'_> {
             return Ok(());
         }
         let number = match self.ties {
-            Ties::First => self.spots.insert_full(spot)?.0,
+            Ties::First => self.spots.add(spot)?.0,
             Ties::Last => self.nodes.len(),
         };
         let node = Node {
@@ -160,7 +160,7 @@ impl Search<'_> {
             }
             let is_near = match self.ties {
                 Ties::First => node.length == length,
-                Ties::Last => self.spots.insert(node.spot)?,
+                Ties::Last => self.spots.add(node.spot)?.1,
             };
             if is_near {
                 self.leave(number, node)?;
@@ -202,7 +202,7 @@ pub fn end_over(
         ties,
         most,
         nodes: Vec::new(alloc),
-        spots: IndexSet::new(alloc),
+        spots: Distinct::new(alloc),
         queue: Queue::new(alloc),
         looked: 0,
     };

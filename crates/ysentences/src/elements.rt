@@ -56,7 +56,7 @@ pub struct Elements<'a> {
 impl Elements<'_> {
     /// Writes an element as one of a list of its kind: its number, or the state and the token of a
     /// cell.
-    pub fn put_short<W: Write>(self, out: &mut W, kind: Kind, number: usize) -> io::Result<()> {
+    pub fn put_short<W: Write>(&self, out: &mut W, kind: Kind, number: usize) -> io::Result<()> {
         let cell = match self.cells.at(number) {
             Some(cell) if kind == Kind::Cells => cell,
             _ => return write!(out, "{number}"),
@@ -72,7 +72,7 @@ impl Elements<'_> {
     }
 
     /// Writes an element with what it is, up to the end of a line.
-    pub fn put_line<W: Write>(self, out: &mut W, kind: Kind, number: usize) -> io::Result<()> {
+    pub fn put_line<W: Write>(&self, out: &mut W, kind: Kind, number: usize) -> io::Result<()> {
         match (kind, self.cells.at(number)) {
             (Kind::Rules, _) => {
                 let text = RuleText(grammar_of(self.tables), number);
@@ -100,7 +100,7 @@ impl Elements<'_> {
     }
 
     /// Writes a cell with what it says.
-    fn put_cell_line<W: Write>(self, out: &mut W, cell: Cell) -> io::Result<()> {
+    fn put_cell_line<W: Write>(&self, out: &mut W, cell: Cell) -> io::Result<()> {
         let state = cell.state;
         let Elements { tables, lines, .. } = self;
         match (cell.token, default_of(tables, state)) {

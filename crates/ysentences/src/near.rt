@@ -1,7 +1,7 @@
 //! Lists of tokens that are near to sentences: one token is left out, changed or put in.
 
-use indexmap::IndexSet;
 use std::alloc::Global;
+use std::collections::HashSet;
 use yexplain::reads::Made;
 use yinput::grammars::used_in;
 use ylalr::ERROR;
@@ -30,7 +30,7 @@ pub struct Near {
     /// How many of them were taken, one after the other, over and over.
     turn: usize,
     /// All lists that were met.
-    met: IndexSet<Vec<Sym>>,
+    met: HashSet<Vec<Sym>>,
 }
 
 impl Drop for Near {
@@ -68,7 +68,7 @@ impl Near {
             alloc,
             inputs,
             turn: 0,
-            met: IndexSet::new(alloc),
+            met: HashSet::new(alloc),
         })
     }
 

@@ -239,9 +239,10 @@ impl Document {
         value: (Span, Option<Span>),
     ) -> Result<Value, AllocError> {
         let text = self.value_text(alloc, value, None)?;
-        let item = item(alloc, label, VARIABLE)?.with_text("detail", text.as_str())?;
-        let edit = self.edit(alloc, part, label)?;
-        Ok(item.with("textEdit", edit)?.done())
+        item(alloc, label, VARIABLE)
+            .with_text("detail", text.as_str())
+            .with("textEdit", self.edit(alloc, part, label))
+            .done()
     }
 
     /// The references that could be written at a place of an action: after a dollar or an at sign,

@@ -40,19 +40,21 @@ fn with_code(alloc: Global, one: &Diagnostic, page: Option<&str>) -> Result<Memb
     if matches!(one.category, Some(Category::Other | Category::Precedence)) {
         tags.push(Value::from(1usize))?;
     }
-    let told = Members::new(alloc).with("tags", Value::Array(tags))?;
-    match (one.code, one.category) {
+    let told = Members::new(alloc).with("tags", Ok(Value::Array(tags)));
+    Ok(match (one.code, one.category) {
         (Some(code), _) => {
-            let told = told.with_text("code", code)?;
-            let Some(page) = page else {
-                return Ok(told);
-            };
-            let href = Members::new(alloc).with_text("href", page)?.done();
-            told.with("codeDescription", href)
+            let told = told.with_text("code", code);
+            match page {
+                Some(page) => {
+                    let href = Members::new(alloc).with_text("href", page);
+                    told.with("codeDescription", href.done())
+                }
+                None => told,
+            }
         }
         (None, Some(category)) => told.with_text("code", category.name()),
-        (None, None) => Ok(told),
-    }
+        (None, None) => told,
+    })
 }
 
 impl Document {
@@ -86,9 +88,10 @@ impl Document {
             if note.spot.is_some() {
                 let (from, to) = self.part_at(note.spot);
                 let message = Value::from(text_of(alloc, &note.text)?);
-                let place = Members::new(alloc).with("message", message)?;
-                let location = self.location(alloc, from, to)?;
-                related.push(place.with("location", location)?.done())?;
+                let place = Members::new(alloc)
+                    .with("message", Ok(message))
+                    .with("location", self.location(alloc, from, to));
+                related.push(place.done()?)?;
             }
         }
         Ok(Value::Array(related))
@@ -118,12 +121,14 @@ impl Document {
             Some(page) => Some(page.as_str()),
             None => None,
         };
-        let told = with_code(alloc, one, page)?;
-        let told = told.with("range", self.range(alloc, from, to)?)?;
-        let told = told.with("severity", Value::from(severity_of(one.severity)))?;
-        let told = told.with("message", Value::from(self.message(alloc, one)?))?;
-        let told = told.with("relatedInformation", self.related(alloc, one)?)?;
-        Ok(told.with_text("source", "ydebug")?.done())
+        let message = self.message(alloc, one)?;
+        with_code(alloc, one, page)?
+            .with("message", Ok(Value::from(message)))
+            .with("range", self.range(alloc, from, to))
+            .with("severity", Ok(Value::from(severity_of(one.severity))))
+            .with("relatedInformation", self.related(alloc, one))
+            .with_text("source", "ydebug")
+            .done()
     }
 
     /// All that is said of the file, and its faults.

@@ -40,9 +40,10 @@ const KEYWORD: usize = 14;
 const CONSTANT: usize = 21;
 
 /// What is offered.
-pub fn item(alloc: Global, label: &str, kind: usize) -> Result<Members, AllocError> {
-    let item = Members::new(alloc).with("kind", Value::from(kind))?;
-    item.with_text("label", label)
+pub fn item(alloc: Global, label: &str, kind: usize) -> Members {
+    Members::new(alloc)
+        .with("kind", Ok(Value::from(kind)))
+        .with_text("label", label)
 }
 
 /// What stands before a place, which says what is wanted there.
@@ -96,7 +97,7 @@ impl Document {
         );
         if wanted == Wanted::Directive {
             for word in &DIRECTIVES {
-                items.push(item(alloc, *word, KEYWORD)?.done())?;
+                items.push(item(alloc, *word, KEYWORD).done()?)?;
             }
             return Ok(Value::Array(items));
         }
@@ -105,7 +106,7 @@ impl Document {
             let fits = wanted == Wanted::Symbol || !is_left && self.is_token(number);
             if let (true, Ok(label)) = (fits, str::from_utf8(name)) {
                 let kind = if is_left { FUNCTION } else { CONSTANT };
-                items.push(item(alloc, label, kind)?.done())?;
+                items.push(item(alloc, label, kind).done()?)?;
             }
         }
         Ok(Value::Array(items))

@@ -242,20 +242,26 @@ impl Document {
     /// The place that so many bytes stand before, as messages have it.
     fn place(&self, alloc: Global, at: usize) -> Result<Value, AllocError> {
         let Position { line, character } = self.position(at);
-        let place = Members::new(alloc).with("line", Value::from(line))?;
-        Ok(place.with("character", Value::from(character))?.done())
+        Members::new(alloc)
+            .with("line", Ok(Value::from(line)))
+            .with("character", Ok(Value::from(character)))
+            .done()
     }
 
     /// A part of it as messages have it.
     pub fn range(&self, alloc: Global, from: usize, to: usize) -> Result<Value, AllocError> {
-        let range = Members::new(alloc).with("start", self.place(alloc, from)?)?;
-        Ok(range.with("end", self.place(alloc, to)?)?.done())
+        Members::new(alloc)
+            .with("start", self.place(alloc, from))
+            .with("end", self.place(alloc, to))
+            .done()
     }
 
     /// A part of it with its name.
     pub fn location(&self, alloc: Global, from: usize, to: usize) -> Result<Value, AllocError> {
-        let location = Members::new(alloc).with_text("uri", self.uri.as_str())?;
-        Ok(location.with("range", self.range(alloc, from, to)?)?.done())
+        Members::new(alloc)
+            .with_text("uri", self.uri.as_str())
+            .with("range", self.range(alloc, from, to))
+            .done()
     }
 
     /// A change by which a part of it becomes a text.
@@ -265,14 +271,16 @@ impl Document {
         (from, to): (usize, usize),
         text: &str,
     ) -> Result<Value, AllocError> {
-        let edit = Members::new(alloc).with_text("newText", text)?;
-        Ok(edit.with("range", self.range(alloc, from, to)?)?.done())
+        Members::new(alloc)
+            .with_text("newText", text)
+            .with("range", self.range(alloc, from, to))
+            .done()
     }
 
     /// Changes of it as messages have them.
     pub fn edits(&self, alloc: Global, edits: Vec<Value>) -> Result<Value, AllocError> {
-        let files = Members::new(alloc).with(self.uri.as_str(), Value::Array(edits))?;
-        Ok(Members::new(alloc).with("changes", files.done())?.done())
+        let files = Members::new(alloc).with(self.uri.as_str(), Ok(Value::Array(edits)));
+        Members::new(alloc).with("changes", files.done()).done()
     }
 
     /// The text after a change that a message has, of a part or of all; `None` where it has none.

@@ -17,10 +17,13 @@ impl Document {
         (from, to): (usize, usize),
         text: &str,
     ) -> Result<Value, AllocError> {
-        let contents = Members::new(alloc).with_text("kind", "plaintext")?;
-        let contents = contents.with_text("value", text)?.done();
-        let shown = Members::new(alloc).with("contents", contents)?;
-        Ok(shown.with("range", self.range(alloc, from, to)?)?.done())
+        let contents = Members::new(alloc)
+            .with_text("kind", "plaintext")
+            .with_text("value", text);
+        Members::new(alloc)
+            .with("contents", contents.done())
+            .with("range", self.range(alloc, from, to))
+            .done()
     }
 
     /// A text, and what a symbol is, by the tables of the last text that had some.

@@ -1,7 +1,7 @@
 //! Where the symbols of a file stand, by its lexemes: also of a file with a fault.
 
-use indexmap::{IndexMap, IndexSet};
 use std::alloc::{AllocError, Global};
+use std::collections::HashMap;
 use yforeign::directive::{Directive, directive_of, is_symbol};
 use yforeign::groups::{Group, Head, groups_of};
 use yforeign::lexeme::{Kind, Lexeme, Span, Uncut};
@@ -70,9 +70,9 @@ pub struct Rule {
 /// Where the symbols of a file stand.
 pub struct Index {
     /// The names, each with a number: literals with their quotes, strings as their tokens.
-    pub names: IndexSet<Vec<u8>>,
-    /// The strings that stand for tokens, with the numbers of these.
-    aliases: IndexMap<Vec<u8>, usize>,
+    pub names: Vec<Vec<u8>>,
+    /// The number of each; of a string that stands for a token, that of the token.
+    numbers: HashMap<Vec<u8>, usize>,
     /// All mentions, in the order of the file.
     pub mentions: Vec<Mention>,
     /// All rules.
@@ -82,7 +82,7 @@ pub struct Index {
     /// The parts of the file that a declaration, a code block or a rule takes.
     pub parts: Vec<(usize, usize)>,
     /// The tags that symbols are declared with.
-    pub tags: IndexMap<usize, Span>,
+    pub tags: HashMap<usize, Span>,
 }
 
 impl Drop for Index {
@@ -90,7 +90,7 @@ impl Drop for Index {
     fn drop(self) {
         let Index {
             names: _,
-            aliases: _,
+            numbers: _,
             mentions: _,
             rules: _,
             lexemes: _,
@@ -112,10 +112,12 @@ impl Maker<'_> {
     /// The number of a name: that of the token for which a string stands.
     fn number(&mut self, text: &[u8]) -> Result<usize, AllocError> {
         let name = Vec::from_slice(self.alloc, text)?;
-        if let Some(number) = self.made.aliases.get(&name).copied() {
+        if let Some(number) = self.made.numbers.get(&name).copied() {
             return Ok(number);
         }
-        let (number, _) = self.made.names.insert_full(name)?;
+        let number = self.made.names.len();
+        self.made.names.push(Vec::from_slice(self.alloc, text)?)?;
+        self.made.numbers.insert(name, number)?;
         Ok(number)
     }
 
@@ -144,7 +146,7 @@ impl Maker<'_> {
             match (last, is_symbol(lexeme.kind)) {
                 (Some(token), true) if is_text && named == Use::Token => {
                     let text = Vec::from_slice(self.alloc, lexeme.text(self.source))?;
-                    self.made.aliases.insert(text, token)?;
+                    self.made.numbers.insert(text, token)?;
                 }
                 (_, true) => {
                     let name = self.mention(lexeme, named)?;
@@ -248,13 +250,13 @@ pub fn index_of(alloc: Global, source: &[u8]) -> Result<Index, AllocError> {
         alloc,
         source,
         made: Index {
-            names: IndexSet::new(alloc),
-            aliases: IndexMap::new(alloc),
+            names: Vec::new(alloc),
+            numbers: HashMap::new(alloc),
             mentions: Vec::new(alloc),
             rules: Vec::new(alloc),
             lexemes: kept,
             parts: Vec::new(alloc),
-            tags: IndexMap::new(alloc),
+            tags: HashMap::new(alloc),
         },
     };
     for group in &groups {
@@ -267,9 +269,7 @@ pub fn index_of(alloc: Global, source: &[u8]) -> Result<Index, AllocError> {
 impl Index {
     /// The name of a number.
     pub fn name(&self, number: usize) -> &[u8] {
-        self.names
-            .get_index(number)
-            .map_or(&[], |name| name.as_slice())
+        self.names.get(number).map_or(&[], |name| name.as_slice())
     }
 
     /// Whether a symbol has this name.

@@ -171,9 +171,11 @@ impl Document {
         for edit in &mend.edits {
             edits.push(self.edit(alloc, (edit.from, edit.to), edit.text.as_str())?)?;
         }
-        let action = Members::new(alloc).with("edit", self.edits(alloc, edits)?)?;
-        let action = action.with_text("title", mend.title.as_str())?;
-        Ok(action.with_text("kind", "quickfix")?.done())
+        Members::new(alloc)
+            .with("edit", self.edits(alloc, edits))
+            .with_text("title", mend.title.as_str())
+            .with_text("kind", "quickfix")
+            .done()
     }
 
     /// Adds a change, where the file is a grammar with it, which has as many conflicts as are told.

@@ -14,11 +14,12 @@ const TOKEN: usize = 14;
 const NONTERMINAL: usize = 12;
 
 /// A symbol of a file: its name, and its kind.
-fn named(alloc: Global, name: &str, mention: &Mention) -> Result<Members, AllocError> {
+fn named(alloc: Global, name: &str, mention: &Mention) -> Members {
     let is_token = mention.named == Use::Token;
     let kind = if is_token { TOKEN } else { NONTERMINAL };
-    let symbol = Members::new(alloc).with("kind", Value::from(kind))?;
-    symbol.with_text("name", name)
+    Members::new(alloc)
+        .with("kind", Ok(Value::from(kind)))
+        .with_text("name", name)
 }
 
 impl Document {
@@ -66,10 +67,11 @@ impl Document {
     pub fn symbols(&self, alloc: Global) -> Result<Value, AllocError> {
         let mut symbols = Vec::new(alloc);
         for (mention, from, to) in &self.shown(alloc)? {
-            let symbol = named(alloc, self.name_of(mention), mention)?;
-            let symbol = symbol.with("range", self.range(alloc, *from, *to)?)?;
-            let own = self.range(alloc, mention.span.from, mention.span.to)?;
-            symbols.push(symbol.with("selectionRange", own)?.done())?;
+            let span = mention.span;
+            let symbol = named(alloc, self.name_of(mention), mention)
+                .with("range", self.range(alloc, *from, *to))
+                .with("selectionRange", self.range(alloc, span.from, span.to));
+            symbols.push(symbol.done()?)?;
         }
         Ok(Value::Array(symbols))
     }
@@ -85,9 +87,11 @@ impl Document {
             let name = self.name_of(mention);
             if name.contains(wanted) {
                 let span = mention.span;
-                let location = self.location(alloc, span.from, span.to)?;
-                let symbol = named(alloc, name, mention)?.with("location", location)?;
-                found.push(symbol.done())?;
+                let symbol = named(alloc, name, mention).with(
+                    "location",
+                    self.location(alloc, span.from, span.to),
+                );
+                found.push(symbol.done()?)?;
             }
         }
         Ok(())
@@ -102,8 +106,10 @@ impl Document {
     ) -> Result<(), AllocError> {
         let (start, end) = (self.position(from).line, self.position(to).line);
         if start < end {
-            let fold = Members::new(alloc).with("startLine", Value::from(start))?;
-            folds.push(fold.with("endLine", Value::from(end))?.done())?;
+            let fold = Members::new(alloc)
+                .with("startLine", Ok(Value::from(start)))
+                .with("endLine", Ok(Value::from(end)));
+            folds.push(fold.done()?)?;
         }
         Ok(())
     }
@@ -163,11 +169,12 @@ impl Document {
     fn selection(&self, alloc: Global, at: usize) -> Result<Value, AllocError> {
         let mut selected = Value::Null;
         for (from, to) in &self.around(alloc, at)? {
-            let part = Members::new(alloc).with("range", self.range(alloc, *from, *to)?)?;
-            selected = match selected {
-                Value::Null => part.done(),
-                parent => part.with("parent", parent)?.done(),
+            let part = Members::new(alloc).with("range", self.range(alloc, *from, *to));
+            let part = match selected {
+                Value::Null => part,
+                parent => part.with("parent", Ok(parent)),
             };
+            selected = part.done()?;
         }
         Ok(selected)
     }

@@ -45,9 +45,11 @@ pub fn highlights(alloc: Global, document: &Document, at: usize) -> Result<Value
             if other.name == mention.name {
                 let is_written = matches!(other.named, Use::Left | Use::Token);
                 let kind = if is_written { 3usize } else { 2 };
-                let mark = Members::new(alloc).with("kind", Value::from(kind))?;
-                let range = document.range(alloc, other.span.from, other.span.to)?;
-                found.push(mark.with("range", range)?.done())?;
+                let span = other.span;
+                let mark = Members::new(alloc)
+                    .with("kind", Ok(Value::from(kind)))
+                    .with("range", document.range(alloc, span.from, span.to));
+                found.push(mark.done()?)?;
             }
         }
     }

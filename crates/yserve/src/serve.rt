@@ -25,10 +25,11 @@ fn publish<W: Write>(
     document: &Document,
     all: Value,
 ) -> io::Result<()> {
-    let params = Members::new(alloc).with("diagnostics", all)?;
-    let version = Value::from(document.version.unwrap_or(0));
-    let params = params.with("version", version)?;
-    let params = params.with_text("uri", document.uri.as_str())?.done();
+    let params = Members::new(alloc)
+        .with("diagnostics", Ok(all))
+        .with("version", Ok(Value::from(document.version.unwrap_or(0))))
+        .with_text("uri", document.uri.as_str())
+        .done()?;
     let told = notice(alloc, "textDocument/publishDiagnostics", params)?;
     send(alloc, out, &told)
 }

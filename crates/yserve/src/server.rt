@@ -190,8 +190,8 @@ impl Server {
             Asks::Folds => return Ok(Ok(document.folds(alloc)?)),
             Asks::Selections => return Ok(Ok(document.selections(alloc, message)?)),
             Asks::Colours => {
-                let found = Members::new(alloc).with("data", document.colours(alloc)?)?;
-                return Ok(Ok(found.done()));
+                let found = Members::new(alloc).with("data", document.colours(alloc));
+                return Ok(Ok(found.done()?));
             }
             _ => {}
         }

@@ -84,27 +84,31 @@ pub fn is_uri(text: &str) -> bool {
 
 /// The answer to a request.
 pub fn answer(alloc: Global, id: &Value, found: Value) -> Result<Value, AllocError> {
-    let answer = Members::new(alloc)
-        .with_text("jsonrpc", "2.0")?
-        .with("result", found)?;
-    Ok(answer.with("id", id.clone()?)?.done())
+    Members::new(alloc)
+        .with_text("jsonrpc", "2.0")
+        .with("result", Ok(found))
+        .with("id", id.clone())
+        .done()
 }
 
 /// The answer to a request with which something is wrong.
 pub fn refusal(alloc: Global, id: &Value, wrong: Wrong) -> Result<Value, AllocError> {
     let (number, text) = wrong.words();
-    let error = Members::new(alloc).with_text("message", text)?;
-    let error = error.with("code", Value::from(number))?.done();
-    let refusal = Members::new(alloc)
-        .with_text("jsonrpc", "2.0")?
-        .with("error", error)?;
-    Ok(refusal.with("id", id.clone()?)?.done())
+    let error = Members::new(alloc)
+        .with_text("message", text)
+        .with("code", Ok(Value::from(number)));
+    Members::new(alloc)
+        .with_text("jsonrpc", "2.0")
+        .with("error", error.done())
+        .with("id", id.clone())
+        .done()
 }
 
 /// What is told without being asked.
 pub fn notice(alloc: Global, method: &str, params: Value) -> Result<Value, AllocError> {
-    let notice = Members::new(alloc)
-        .with_text("jsonrpc", "2.0")?
-        .with("params", params)?;
-    Ok(notice.with_text("method", method)?.done())
+    Members::new(alloc)
+        .with_text("jsonrpc", "2.0")
+        .with("params", Ok(params))
+        .with_text("method", method)
+        .done()
 }

@@ -4,7 +4,7 @@
 use crate::arrays::put_array;
 use std::alloc::Global;
 use ycode::Code;
-use yexplain::reads::{Made, name_of, set};
+use yexplain::reads::{Made, is_set, name_of, set};
 use yfiles::output::Output;
 use ylalr::{ERROR, token_count};
 use yparts::parts::{By, Parts};
@@ -178,7 +178,7 @@ fn order_of(alloc: Global, grammar: &Grammar, parts: &Parts<'_>) -> Made<Vec<Sym
     let mut all = Vec::from_slice(alloc, &[0, ERROR])?;
     all.push(grammar.find(UNDEFINED).unwrap_or(0))?;
     for mention in &parts.mentioned {
-        let waits = mention.by == By::Name && is_listed.get(mention.symbol) == Some(&true);
+        let waits = mention.by == By::Name && is_set(&is_listed, mention.symbol);
         all.push(if waits { 0 } else { mention.symbol })?;
     }
     for token in 0..count {

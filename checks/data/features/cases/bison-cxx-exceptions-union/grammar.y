@@ -28,7 +28,12 @@ list : %empty         { $$ = new std::string; }
      | list '(' { ++open; } list ')'
                       { $$ = $1; $$->append ("(" + *$4 + ")"); delete $4; --open; }
      | list SIGN      { $$ = $1; if ($2 == '!') throw std::string ("a sign");
-                        if ($2 == '%') throw syntax_error (@2, "no percents"); }
+                        if ($2 == '%')
+                          {
+                            /* what a rule has that ends so is thrown away by nobody else */
+                            delete $1;
+                            throw syntax_error (@2, "no percents");
+                          } }
      ;
 %%
 static int

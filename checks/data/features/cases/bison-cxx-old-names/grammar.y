@@ -5,7 +5,8 @@
 %define parser_class_name "reader"
 %define location_type "place"
 %define parse.assert
-%define api.value.type variant
+%define variant
+%define api.tokens.prefix "T_"
 %name-prefix "old"
 %error-verbose
 %debug
@@ -39,7 +40,7 @@ oldlex (one::two::reader::semantic_type *value, place *where, int &count)
   if (sign == '\n' || sign == '?')
     return sign == '?' ? sign : 0;
   value->build<std::string> () = std::string (1, static_cast<char> (sign));
-  return one::two::reader::token::NAME;
+  return one::two::reader::token::T_NAME;
 }
 void
 one::two::reader::error (const place &where, const std::string &what)
