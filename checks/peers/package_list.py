@@ -185,8 +185,8 @@ make -j4 libdap.la libdapserver.la libdapclient.la
 make -C tests -j4 das-test dds-test expr-test dmr-test"""
 DAP_TESTS = [f"cd tests && sh ./{it}Test -j4" for it in ("DAS", "DDS", "EXPR", "DMR")]
 
-# --- gringo: two parsers in C++. One program has the tests, and tells each assertion with its place;
-# what they include from Debian's catch2 lies beside them, too.
+# --- gringo: two parsers in C++. One program has the tests; what they include from Debian's catch2
+# lies beside them, too.
 GRINGO_BUILD = """mkdir -p laid/catch2
 cp libgringo/tests/catch.hpp laid/catch2
 cmake -B out -DCMAKE_BUILD_TYPE=None \\
@@ -194,7 +194,9 @@ cmake -B out -DCMAKE_BUILD_TYPE=None \\
   -DCLINGO_BUILD_TESTS=ON -DCLINGO_BUILD_APPS=OFF \\
   -DCLINGO_BUILD_WITH_PYTHON=OFF -DCLINGO_BUILD_WITH_LUA=OFF .
 make -C out -j4 test_gringo"""
-GRINGO_TESTS = "out/bin/test_gringo -s -r compact"
+GRINGO_TESTS = """out/bin/test_gringo --list-test-names-only | while read -r it
+do if out/bin/test_gringo "$it" > told; then echo "PASS: $it"; else echo "FAIL: $it"; fi
+done"""
 
 # --- byacc: the grammars of its tests whose parsers run, and those that are compiled. The others
 # are for btyacc, or to be refused, or have what ycc refuses: `%<` and `%0` for words (ok_syntax1,
@@ -423,7 +425,7 @@ PACKAGES = [
         source="gringo",
         needs=("cmake", "re2c"),
         build=GRINGO_BUILD,
-        tests=partial(whole, [GRINGO_TESTS]),
+        tests=partial(lines_told, GRINGO_TESTS, ""),
     ),
     Package(
         name="byacc",
