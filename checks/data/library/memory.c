@@ -1,6 +1,6 @@
-/* Refuses each allocation of each call in turn, by itself and with all later ones: the call then
- * answers that memory ran out, or goes on without, and gives all back. It is linked with --wrap for
- * malloc, realloc and free. The sum comes last. */
+/* Refuses each allocation of each call, one after the other, by itself and with all later ones:
+ * the call then answers that memory ran out, or goes on without, and gives all back. It is linked
+ * with --wrap for malloc, realloc and free. The sum comes last. */
 #include "sulderko.h"
 
 #include <stdio.h>

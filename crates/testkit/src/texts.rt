@@ -2,7 +2,7 @@
 
 use std::alloc::{AllocError, Global};
 
-/// A text: the head, a piece so many times, and the end behind them. It fails only when memory
+/// A text: the head, a piece so many times, and the end after them. It fails only when memory
 /// runs out.
 pub fn repeated(
     alloc: Global,

@@ -3,7 +3,7 @@
 /// One rule of one token.
 pub const ONE: &[u8] = b"%% s : 'x' ;";
 
-/// Lists of numbers, each with a semicolon behind it; `error` stands for one that is spoiled.
+/// Lists of numbers, each with a semicolon after it; `error` stands for one that is spoiled.
 pub const LIST: &[u8] = b"%token NUM %% list : | list NUM ';' | list error ';' ;";
 
 /// Sums and products, by precedence.
@@ -68,7 +68,7 @@ pub fn first_lines(text: &[u8], lines: usize) -> &[u8] {
     text
 }
 
-/// The part of a text behind its first lines; empty where it has no more of them.
+/// The part of a text after its first lines; empty where it has no more of them.
 pub fn behind(text: &[u8], lines: usize) -> &[u8] {
     text.strip_prefix(first_lines(text, lines)).unwrap_or(b"")
 }

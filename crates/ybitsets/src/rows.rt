@@ -68,7 +68,7 @@ impl Rows {
         (word >> (c % BITS)) & 1 == 1
     }
 
-    /// A column behind `c`, a column that row `r` lacks. The row has no column between them: it is
+    /// A column after `c`, a column that row `r` lacks. The row has no column between them: it is
     /// the next one that the row has in the same word, or else where the word ends.
     pub fn after(&self, r: usize, c: usize) -> usize
         requires row { r < self.now.height }

@@ -74,7 +74,7 @@ fn a_flush_that_fails_without_a_buffer(rt: HostRuntime) -> Result<(), Fail> {
         flushes = flushes.wrapping_add(usize::from(whole == Some(true) && refused));
         ends = ends.wrapping_add(usize::from(!refused));
     }
-    // Behind the writes one call is the flush, and the calls that are never made are no fault.
+    // After the writes one call is the flush, and the calls that are never made are no fault.
     assert_eq!(rt; flushes, 1);
     assert!(rt; ends > 0);
     Ok(())

@@ -1,4 +1,4 @@
-//! Trees and forms into writers that refuse a call, and sessions that go on behind it.
+//! Trees and forms into writers that refuse a call, and sessions that go on after it.
 
 use crate::made::tables_of;
 use std::alloc::Global;

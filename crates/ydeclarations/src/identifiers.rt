@@ -29,7 +29,7 @@ pub fn is_named(names: &SymbolTable, who: Identifier) -> bool
     }
 }
 
-/// Adds a name or literal behind the others, unless it is among them. It fails only when memory
+/// Adds a name or literal after the others, unless it is among them. It fails only when memory
 /// runs out.
 pub fn intern_identifier(
     alloc: Global,

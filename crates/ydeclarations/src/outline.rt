@@ -25,14 +25,14 @@ use ysyntax::tree::{
     BodyPart, Definition, Digits, Entry, NameAt, Occurrence, RuleText, Tree, Word,
 };
 
-/// A token that a line lists: the precedence that the line gives, and the digits behind the token.
+/// A token that a line lists: the precedence that the line gives, and the digits after the token.
 #[derive(Clone, Copy, Drop)]
 pub struct Listed<'a> {
     /// The precedence that the line gives its tokens; `None` for a `%token` line.
     pub gives: Option<Precedence>,
     /// The token.
     pub who: Occurrence<'a>,
-    /// The digits behind it.
+    /// The digits after it.
     pub digits: Option<Digits<'a>>,
 }
 
@@ -57,9 +57,9 @@ pub struct Outline<'a> {
     pub declared: Vec<Occurrence<'a>>,
     /// The left sides.
     pub lefts: Vec<NameAt<'a>>,
-    /// The names and literals of the rules, also those behind `%prec`.
+    /// The names and literals of the rules, also those after `%prec`.
     pub used: Vec<Occurrence<'a>>,
-    /// The names and literals behind `%prec`.
+    /// The names and literals after `%prec`.
     pub precs: Vec<Occurrence<'a>>,
 }
 
@@ -245,7 +245,7 @@ fn push_items<'a>(found: &mut Vec<Occurrence<'a>>, items: &[BodyPart<'a>]) -> Re
     Ok(())
 }
 
-/// Adds the name or literal behind a `%prec`, where the rule has one.
+/// Adds the name or literal after a `%prec`, where the rule has one.
 fn push_prec<'a>(
     found: &mut Vec<Occurrence<'a>>,
     prec: Option<Occurrence<'a>>,

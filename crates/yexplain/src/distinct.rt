@@ -49,7 +49,7 @@ impl<T: Eq + Hash + Copy + Drop> Distinct<T> {
     }
 
     /// Adds an entry, where it isn't there: its number, and whether it is new. Where memory runs
-    /// out, its number may be there without it.
+    /// out, it may be among all entries without a number.
     pub fn add(&mut self, entry: T) -> Made<(usize, bool)> {
         if let Some(number) = self.number(entry) {
             return Ok((number, false));

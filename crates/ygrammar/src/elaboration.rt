@@ -194,7 +194,7 @@ impl Named {
     }
 }
 
-/// Refuses rules of a file where a mistake stands that comes behind `BadStart`.
+/// Refuses rules of a file where a mistake stands that comes after `BadStart`.
 fn refuse_rules(
     alloc: Global,
     outline: &Outline,

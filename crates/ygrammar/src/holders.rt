@@ -137,7 +137,7 @@ fn hold_given(holders: &mut Vec<Holders>, tokens: &SymbolTable, listed: &[Listed
     }
 }
 
-/// How many bytes stand before the first number at fault: that of the listing behind `fault`
+/// How many bytes stand before the first number at fault: that of the listing after `fault`
 /// others, or one before it that several tokens hold; 0 where no number is at fault.
 fn first_at_fault(listed: &[Listed], fault: Option<usize>, holders: &[Holders]) -> usize
     requires { length holders.now ≡ number_bound }

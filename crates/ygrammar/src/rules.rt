@@ -38,7 +38,7 @@ fn inner_name(alloc: Global, k: usize) -> Result<Vec<u8>, AllocError>
     Ok(name)
 }
 
-/// A body without its final action, and that action: the one behind the precedence, or else the
+/// A body without its final action, and that action: the one after the precedence, or else the
 /// last part of the body.
 fn final_parts<'t, 'a>(rule_text: &'t RuleText<'a>) -> (&'t [BodyPart<'a>], Option<BracedText<'a>>)
     ensures items { map body_part_view result.0.now
@@ -229,7 +229,7 @@ fn last_token(tokens: usize, body: &[Sym]) -> Option<Sym>
     last
 }
 
-/// The precedence of a rule: that of the token behind its `%prec`, or else of the last token of
+/// The precedence of a rule: that of the token after its `%prec`, or else of the last token of
 /// its body.
 fn rule_precedence(
     names: &SymbolTable,

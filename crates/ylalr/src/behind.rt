@@ -1,4 +1,4 @@
-//! What forms begin with; and, made once for each rule, what stands behind the first symbol of its
+//! What forms begin with; and, made once for each rule, what stands after the first symbol of its
 //! body. Each state that has the rule with the dot at 0 asks for that.
 
 ghost use Rattle.std.specs.Prelude.{◌≡◌, ◌<◌, ◌≤◌, ◌↔◌, length, All, IfOk, IsTrue};
@@ -12,7 +12,7 @@ use ybitsets::marks::Marks;
 use ybitsets::rows::Rows;
 use ysymbols::{Grammar, Sym, let_go};
 
-/// What stands behind the first symbol of the body of each rule.
+/// What stands after the first symbol of the body of each rule.
 pub struct Behind {
     /// For each rule, the tokens with which that begins.
     pub rows: Rows,
@@ -47,7 +47,7 @@ pub fn add_form(nullable: &Marks, first: &Rows, form: &[Sym], rows: &mut Rows, t
     true
 }
 
-/// What stands behind the first symbol of the body of rule `r`: nothing, where the body is empty.
+/// What stands after the first symbol of the body of rule `r`: nothing, where the body is empty.
 fn rest(grammar: &Grammar, r: usize) -> &[Sym]
     requires { r < length grammar.now.bare.rules }
     ensures value { result.now ≡ rest_of grammar.now.bare r }
@@ -58,7 +58,7 @@ fn rest(grammar: &Grammar, r: usize) -> &[Sym]
     if body.is_empty() { body } else { &body[1..] }
 }
 
-/// What stands behind the first symbol of each body. It fails only when memory runs out.
+/// What stands after the first symbol of each body. It fails only when memory runs out.
 pub fn behind_of(
     alloc: Global,
     grammar: &Grammar,

@@ -64,7 +64,7 @@ fn twin_row(grammar: &Grammar, items: &[Item], rows: &[usize], item: Item) -> Op
     None
 }
 
-/// The row of an item behind others: that of one of them, or else the one by its left side.
+/// The row of an item after others: that of one of them, or else the one by its left side.
 fn row_behind(
     grammar: &Grammar,
     items: &[Item],
@@ -87,7 +87,7 @@ fn row_behind(
     lefts.row_of(grammar, item, fresh)
 }
 
-/// The rows of the items of a state, from row `first` on, and the first row behind them.
+/// The rows of the items of a state, from row `first` on, and the first row after them.
 fn rows_of(
     alloc: Global,
     grammar: &Grammar,
@@ -116,7 +116,7 @@ fn rows_of(
 }
 
 impl ItemRows {
-    /// The rows of the items of the states, each state's behind those of the state before. It
+    /// The rows of the items of the states, each state's after those of the state before. It
     /// fails only when memory runs out.
     pub fn of(alloc: Global, grammar: &Grammar, states: &States) -> Result<ItemRows, AllocError>
         requires states { AreStates grammar.now.bare states.now }

@@ -33,7 +33,7 @@ pub fn symbol_after(grammar: &Grammar, item: Item) -> Option<Sym>
     }
 }
 
-/// What stands behind the symbol after the dot.
+/// What stands after the symbol after the dot.
 pub fn form_after(grammar: &Grammar, item: Item) -> &[Sym]
     requires rule { item.rule < length grammar.now.bare.rules }
     requires dot { item.dot < length (body_of grammar.now.bare item.rule) }

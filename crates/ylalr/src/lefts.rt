@@ -48,7 +48,7 @@ impl Lefts {
         Ok(Lefts { rows, used })
     }
 
-    /// A symbol behind `s`, such that no symbol between has a row.
+    /// A symbol after `s`, such that no symbol between has a row.
     fn after(&self, s: Sym) -> Sym
         requires { s < length self.now }
         ensures further { s < result }

@@ -16,11 +16,11 @@
 //! Lookaheads go the same way, one bit for each token. In each state, the items of one left side
 //! with the dot at 0 share a row, since their lookaheads are the same; items of one left side with
 //! equal symbols before the dot can share one too, and every other item has its own (`item_rows`,
-//! `lefts`). What stands behind the first symbol of a body is looked at once for its rule
+//! `lefts`). What stands after the first symbol of a body is looked at once for its rule
 //! (`behind`), since each state that has the rule with the dot at 0 needs it. One pass over the
-//! items (`looks`) puts into the row of the left side after a dot what the form behind it begins
+//! items (`looks`) puts into the row of the left side after a dot what the form after it begins
 //! with. It links an item's row to that of the item with its dot moved, in the state that the goto
-//! leads to; and where the form behind vanishes, to the row of the left side after its dot.
+//! leads to; and where the form after vanishes, to the row of the left side after its dot.
 //!
 //! A call whose result is named `_well_formed` is made only for its clause: the grammar is well
 //! formed.

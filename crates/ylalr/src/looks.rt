@@ -37,7 +37,7 @@ pub struct Lr0 {
     pub nullable: Marks,
     /// The tokens that each symbol can begin with.
     pub first: Rows,
-    /// What stands behind the first symbol of each body.
+    /// What stands after the first symbol of each body.
     pub behind: Behind,
     /// The states.
     pub states: States,
@@ -80,7 +80,7 @@ impl Model for Draft {
     ghost view = { λ d. record { looks = d.looks; links = d.links } };
 }
 
-/// Adds to row `to` what the form behind the symbol after the dot begins with, and says whether
+/// Adds to row `to` what the form after the symbol after the dot begins with, and says whether
 /// that form vanishes. Where the dot is at 0, a row for the whole form was made before.
 fn add_rest(lr0: &Lr0, item: Item, looks: &mut Rows, to: usize) -> bool
     requires fit { FitLr0 lr0.now }

@@ -59,7 +59,7 @@ pub fn digit_run(bytes: &[u8]) -> (&[u8], &[u8])
     bytes.split_at(n)
 }
 
-/// What follows the first byte `first` with `second` right behind it. `None` where they stand
+/// What follows the first byte `first` with `second` right after it. `None` where they stand
 /// nowhere.
 pub fn after_pair<'a>(bytes: &'a [u8], first: u8, second: u8) -> Option<&'a [u8]>
     ensures { slice_of result ≡ pair_after first second bytes.now }

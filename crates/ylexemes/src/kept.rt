@@ -14,7 +14,7 @@ pub enum Mode {
     Outside,
     /// A string or a character constant, by its quote.
     Quoted(u8),
-    /// Behind a backslash in one.
+    /// After a backslash in one.
     Escaped(u8),
     /// The star of `/*`.
     Opening,
@@ -89,7 +89,7 @@ impl Mode {
     }
 }
 
-/// What follows a kept text, behind its first brace.
+/// What follows a kept text, after its first brace.
 fn after_kept<'a>(bytes: &'a [u8]) -> Option<&'a [u8]>
     ensures { slice_of result ≡ closes Mode.Outside 0 bytes.now }
 {

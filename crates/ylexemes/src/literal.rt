@@ -10,20 +10,20 @@ ghost use Rattle.ylexemes.specs.Views.{Reads, begins_quote};
 
 use crate::part::{Lexeme, LexicalFault, Part};
 
-/// How far a literal has been read, behind its first quote.
+/// How far a literal has been read, after its first quote.
 #[derive(Clone, Copy)]
 pub enum Stage {
     /// Nothing but the first quote.
     Opened,
-    /// Behind a backslash.
+    /// After a backslash.
     Backslash,
     /// Only the last quote is missing.
     Shut(u8),
     /// So many octal digits, and their value.
     Octals(u8, u8),
-    /// Behind `\x`.
+    /// After `\x`.
     HexMark,
-    /// Behind `\x` and hexadecimal digits of this value.
+    /// After `\x` and hexadecimal digits of this value.
     Hexed(u8),
 }
 
@@ -54,7 +54,7 @@ fn digit(b: u8, radix: u32) -> Option<u32>
     char::from(b).to_digit(radix)
 }
 
-/// The value of an escape of one byte behind the backslash.
+/// The value of an escape of one byte after the backslash.
 fn escape(b: u8) -> Option<u8>
     ensures { result ≡ escape_value b }
 {
@@ -161,7 +161,7 @@ impl Stage {
     }
 }
 
-/// Reads a literal behind its first quote.
+/// Reads a literal after its first quote.
 fn scan_literal<'a>(bytes: &'a [u8]) -> Scan<'a>
     ensures { scan_view result ≡ scan Stage.Opened bytes.now }
 {
@@ -208,7 +208,7 @@ pub(crate) fn read_literal<'a>(bytes: &'a [u8]) -> Result<(Part<'a>, &'a [u8]), 
 
 /// The value of the literal at the front, 1 to 255, and what follows it (POSIX yacc, "Lexical
 /// Structure of the Grammar"): one character between quotes, plain, `\n` and the like, up to three
-/// octal digits, or hexadecimal ones behind `\x`.
+/// octal digits, or hexadecimal ones after `\x`.
 ///
 /// `None` where no literal stands at the front, also where the bytes end within one.
 pub fn literal_at(bytes: &[u8]) -> Option<(u8, &[u8])>

@@ -7,7 +7,7 @@ use crate::bytes::{after_pair, after_text, name_run};
 use crate::kind::Sign;
 use crate::part::{Lexeme, LexicalFault, Part};
 
-/// The lexeme that a word behind a percent sign is.
+/// The lexeme that a word after a percent sign is.
 fn keyword(word: &[u8]) -> Option<Sign>
     ensures { result ≡ word_of word.now }
 {

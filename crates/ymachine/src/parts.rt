@@ -44,7 +44,7 @@ pub enum Node {
 pub struct Parts {
     /// The stack, from the bottom.
     pub(crate) stack: Vec<StackEntry>,
-    /// The nodes, each behind its children.
+    /// The nodes, each after its children.
     pub(crate) nodes: Vec<Node>,
     /// The entries that became children.
     pub(crate) children: Vec<StackEntry>,

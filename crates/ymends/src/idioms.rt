@@ -279,7 +279,7 @@ impl Search<'_> {
         Ok(())
     }
 
-    /// Adds hidden left recursion: a nonterminal leads to itself behind symbols that may be empty.
+    /// Adds hidden left recursion: a nonterminal leads to itself after symbols that may be empty.
     fn add_hidden(&mut self) -> Made<()> {
         let (alloc, automaton) = (self.alloc, self.automaton);
         let grammar = automaton.grammar();

@@ -61,8 +61,8 @@ pub fn candidate_at(tables: &Tables, q: usize, t: Sym, index: usize) -> Option<C
 }
 
 /// The first rule that is a candidate in the cell of state `q` and the token `t`, of those whose
-/// items stand at `index` among the items of the state or behind it; `None` where there is none.
-/// Asked from 0 on, and then from behind each answer, it gives the rules of the cell in their
+/// items stand at `index` among the items of the state or after it; `None` where there is none.
+/// Asked from 0 on, and then from after each answer, it gives the rules of the cell in their
 /// order, each once. `q` is below the number of states, `t` is a token, and `index` is any number.
 pub fn next_rule(tables: &Tables, q: usize, t: Sym, index: usize) -> Option<Candidate>
     requires state { q < length tables.now.built.states }

@@ -142,7 +142,7 @@ fn shifts_behind(tables: &Tables, (state, token): (usize, Sym), left: Option<Sym
 }
 
 /// Whether the conflicts of a block are those of operators: each rule ends with its left side, and
-/// the token can be shifted behind that, so that the grammar is ambiguous.
+/// the token can be shifted after that, so that the grammar is ambiguous.
 fn are_operators(tables: &Tables, block: &Block) -> bool {
     let grammar = grammar_of(tables);
     for class in &block.classes {

@@ -29,7 +29,7 @@ pub enum Verdict {
     /// replaced by a left side, and one for the acceptance.
     Accepted(usize),
     /// An error is detected first with the token at this place ahead, counted from 1, or with the
-    /// end ahead, whose place is one behind the last token's.
+    /// end ahead, whose place is one after the last token's.
     Rejected(usize),
     /// Neither: at position 1,000,000 the parse would go on.
     Limit,

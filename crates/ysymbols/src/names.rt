@@ -71,7 +71,7 @@ impl SymbolTable {
         self.numbers.get(name).copied()
     }
 
-    /// Adds a name that is not among them behind the others. It fails only when memory runs out,
+    /// Adds a name that is not among them after the others. It fails only when memory runs out,
     /// and then adds nothing.
     pub fn push(&mut self, alloc: Global, name: &[u8]) -> Result<(), AllocError>
         requires { is_among self.old name.now ≡ false }
@@ -154,7 +154,7 @@ pub fn number_in(names: &SymbolTable, name: &[u8]) -> usize
     names.find(name).unwrap_or(names.len())
 }
 
-/// Adds a name behind the others, unless it is among them. It fails only when memory runs out.
+/// Adds a name after the others, unless it is among them. It fails only when memory runs out.
 pub fn intern(alloc: Global, names: &mut SymbolTable, name: &[u8]) -> Result<(), AllocError>
     ensures { OnOk result (names.new ≡ with_name names.old name.now) }
 {

@@ -62,7 +62,7 @@ impl Rule {
         self.body.as_slice()
     }
 
-    /// The precedence of the rule, where it has one: that of the token behind its `%prec`, or else
+    /// The precedence of the rule, where it has one: that of the token after its `%prec`, or else
     /// of the last token of its body.
     pub fn precedence(&self) -> Option<Precedence>
         ensures { result ≡ self.now.precedence }

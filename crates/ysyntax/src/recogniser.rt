@@ -9,48 +9,48 @@ ghost use Rattle.ysyntax.specs.Recogniser.{after_body, after_prec, next_state, i
 
 use ylexemes::kind::Kind;
 
-/// How far a grammar file's syntax has been read: behind which lexeme.
+/// How far a grammar file's syntax has been read: after which lexeme.
 #[derive(Clone, Copy, Debug, Drop, PartialEq, Eq)]
 pub enum State {
     /// Between two declarations.
     Declarations,
-    /// Behind `%start`.
+    /// After `%start`.
     StartWord,
-    /// Behind `%union`.
+    /// After `%union`.
     UnionWord,
-    /// Behind `%token`, `%left`, `%right` or `%nonassoc`.
+    /// After `%token`, `%left`, `%right` or `%nonassoc`.
     ListWord,
-    /// Behind the `<` of a tag in a line that lists tokens.
+    /// After the `<` of a tag in a line that lists tokens.
     ListTagOpen,
-    /// Behind the name of that tag.
+    /// After the name of that tag.
     ListTagName,
-    /// Behind the `>` of that tag.
+    /// After the `>` of that tag.
     ListTagged,
-    /// Behind a token that is listed.
+    /// After a token that is listed.
     Listed,
-    /// Behind the number of a token that is listed.
+    /// After the number of a token that is listed.
     Numbered,
-    /// Behind `%type`.
+    /// After `%type`.
     TypeWord,
-    /// Behind the `<` of its tag.
+    /// After the `<` of its tag.
     TypeTagOpen,
-    /// Behind the name of its tag.
+    /// After the name of its tag.
     TypeTagName,
-    /// Behind the `>` of its tag.
+    /// After the `>` of its tag.
     TypeTagged,
-    /// Behind a name that `%type` lists.
+    /// After a name that `%type` lists.
     Typed,
-    /// Behind the first `%%`.
+    /// After the first `%%`.
     RulesMark,
     /// Within the body of a rule, also at its beginning.
     Body,
-    /// Behind `%prec`.
+    /// After `%prec`.
     PrecWord,
-    /// Behind the name or literal of `%prec`.
+    /// After the name or literal of `%prec`.
     PrecNamed,
-    /// Behind the action that follows a `%prec`, or behind a semicolon.
+    /// After the action that follows a `%prec`, or after a semicolon.
     Semicolons,
-    /// Behind the second `%%`.
+    /// After the second `%%`.
     End,
 }
 

@@ -59,7 +59,7 @@ pub enum Word {
     Nonassoc,
 }
 
-/// A token in a listing, and the number behind it, where one stands there.
+/// A token in a listing, and the number after it, where one stands there.
 #[derive(Clone, Copy, Drop)]
 pub struct Entry<'a> {
     /// The token.
@@ -119,11 +119,11 @@ pub struct RuleText<'a> {
     pub left: Option<NameAt<'a>>,
     /// The parts between the colon or bar and what ends the rule; none for an empty rule.
     pub body: Vec<BodyPart<'a>>,
-    /// The name or literal behind `%prec`.
+    /// The name or literal after `%prec`.
     pub prec: Option<Occurrence<'a>>,
-    /// The action behind the `%prec`.
+    /// The action after the `%prec`.
     pub last: Option<BracedText<'a>>,
-    /// How many semicolons stand behind it.
+    /// How many semicolons stand after it.
     pub semicolons: usize,
 }
 

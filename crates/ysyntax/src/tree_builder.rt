@@ -201,7 +201,7 @@ impl<'a> TreeBuilder<'_, 'a> {
     }
 }
 
-// Declarations. Behind a word, what it asks for is always there.
+// Declarations. After a word, what it asks for is always there.
 impl<'a> TreeBuilder<'_, 'a> {
     /// The name of the tag in front, where one stands there.
     fn tag(&mut self) -> Option<NameAt<'a>>
@@ -270,7 +270,7 @@ impl<'a> TreeBuilder<'_, 'a> {
         Ok(names)
     }
 
-    /// A listing, behind its word.
+    /// A listing, after its word.
     fn listing(&mut self, alloc: Global, word: Word) -> Result<Definition<'a>, AllocError>
         requires { GoesOn ListWord self.old }
         ensures read { IfOk result (λ d. IsRead (word_sign (word_view word)) d self.old self.new) }
@@ -282,7 +282,7 @@ impl<'a> TreeBuilder<'_, 'a> {
         Ok(Definition::Listing(Listing { word, tag, entries }))
     }
 
-    /// A tag and its names, behind `%type`.
+    /// A tag and its names, after `%type`.
     fn types(&mut self, alloc: Global) -> Result<Option<Definition<'a>>, AllocError>
         requires { GoesOn TypeWord self.old }
         ensures read { IfOk result (λ o. ReadsDeclaration sign.Types o self.old self.new) }
@@ -296,7 +296,7 @@ impl<'a> TreeBuilder<'_, 'a> {
         Ok(Some(Definition::Types(Types { tag, names })))
     }
 
-    /// The start symbol, behind its `%start`, which stands at the place.
+    /// The start symbol, after its `%start`, which stands at the place.
     fn start(&mut self, at: usize) -> Option<Definition<'a>>
         requires { GoesOn StartWord self.old }
         ensures place { IfSome result (λ d. DefinitionAt at d) }
@@ -308,7 +308,7 @@ impl<'a> TreeBuilder<'_, 'a> {
         Some(Definition::Start(symbol, at))
     }
 
-    /// A kept text, behind `%union`.
+    /// A kept text, after `%union`.
     fn union_text(&mut self) -> Option<Definition<'a>>
         requires { GoesOn UnionWord self.old }
         ensures read { ReadsDeclaration sign.Union result self.old self.new }
@@ -319,7 +319,7 @@ impl<'a> TreeBuilder<'_, 'a> {
         Some(Definition::Union(text))
     }
 
-    /// A declaration, behind its word, which stands at this place; `None` where the word is the
+    /// A declaration, after its word, which stands at this place; `None` where the word is the
     /// mark.
     fn declaration(
         &mut self,
@@ -364,7 +364,7 @@ impl<'a> TreeBuilder<'_, 'a> {
         }
     }
 
-    /// The declarations, and the mark behind them.
+    /// The declarations, and the mark after them.
     fn definitions(&mut self, alloc: Global) -> Result<Vec<Definition<'a>>, AllocError>
         requires { GoesOn Declarations self.old }
         ensures whole { IfOk result (λ v. views self.old
@@ -405,7 +405,7 @@ impl<'a> TreeBuilder<'_, 'a> {
         Ok(body)
     }
 
-    /// The precedence behind a body, and the action behind that.
+    /// The precedence after a body, and the action after that.
     fn precedence(&mut self) -> (Option<Occurrence<'a>>, Option<BracedText<'a>>)
         requires ended { NoBodyPart (views self.old) }
         requires goes_on { GoesOn Body self.old }
@@ -442,7 +442,7 @@ impl<'a> TreeBuilder<'_, 'a> {
         before - self.rest.len()
     }
 
-    /// A rule, behind what it begins with.
+    /// A rule, after what it begins with.
     fn rule_text(
         &mut self,
         alloc: Global,
@@ -472,7 +472,7 @@ impl<'a> TreeBuilder<'_, 'a> {
         })
     }
 
-    /// The rules. Behind them stands nothing, or the second mark.
+    /// The rules. After them stands nothing, or the second mark.
     fn rule_texts(&mut self, alloc: Global) -> Result<Vec<RuleText<'a>>, AllocError>
         requires { GoesOn RulesMark self.old }
         ensures whole { IfOk result (λ v. views self.old

@@ -1,4 +1,4 @@
-//! What stands behind the dot of an item.
+//! What stands after the dot of an item.
 
 ghost use Rattle.std.specs.Prelude.{◌≡◌, ◌<◌, ◌+◌, [], ◌∷◌, length, drop, MatchOption};
 ghost use Rattle.ysymbols.specs.Grammar.{body_of};

@@ -71,7 +71,7 @@ fn numbers_of_tokens(rt: HostRuntime) -> Result<(), Fail> {
     Ok(())
 }
 
-// In front of the parenthesis and behind it the same tokens can be shifted, to the same states.
+// Before the parenthesis and after it the same tokens can be shifted, to the same states.
 #[test]
 fn equal_rows_begin_at_one_place(rt: HostRuntime) -> Result<(), Fail> {
     let code = arrays(rt.alloc(), b"%% s : '(' s ')' | 'x' ;")?;
@@ -81,7 +81,7 @@ fn equal_rows_begin_at_one_place(rt: HostRuntime) -> Result<(), Fail> {
     Ok(())
 }
 
-// Behind `e '<' e`, state 4, a further '<', token 3, is an error; the number of an error is that of
+// After `e '<' e`, state 4, a further '<', token 3, is an error; the number of an error is that of
 // states and rules together. The end has the usual reduction, and no number.
 #[test]
 fn errors_of_nonassoc_are_told_apart(rt: HostRuntime) -> Result<(), Fail> {

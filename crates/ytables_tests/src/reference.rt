@@ -75,7 +75,7 @@ fn index_of(automaton: &Automaton, q: usize, item: Item) -> Option<usize> {
     items_of(automaton, q).iter().position(|i| *i == item)
 }
 
-/// Whether the form, with the token `a` behind it, can begin with the token `b`.
+/// Whether the form, with the token `a` after it, can begin with the token `b`.
 fn begins(automaton: &Automaton, form: &[Sym], a: Sym, b: Sym) -> bool {
     for s in form {
         let known = *s < automaton.grammar().symbols() && automaton.grammar().is_token(b);

@@ -31,7 +31,7 @@ fn sent(tables: &Tables, text: Text, refusal: Refusal) -> (Result<(), TableFault
     (answer, link.failed(), link.into_inner())
 }
 
-/// Whether a writer that fails behind so many bytes of a text gets these and answers a fault.
+/// Whether a writer that fails after so many bytes of a text gets these and answers a fault.
 fn is_cut(tables: &Tables, text: Text, whole: &[u8], n: usize, refusal: Refusal) -> bool {
     let (answer, failed, sink) = sent(tables, text, refusal);
     answer == Err(TableFault::Write) && failed && whole.get(..n) == Some(sink.text())

@@ -125,7 +125,7 @@ fn next_by_name<'a>(
     }
 }
 
-/// What comes next behind the tokens that were read.
+/// What comes next after the tokens that were read.
 fn next_in<'a>(grammar: &Grammar, read: usize, bytes: &'a [u8]) -> Next<'a>
     requires { read ≤ most_tokens }
     ensures { Comes (symbol_named grammar.now) (token_count grammar.now) read bytes.entry.now
