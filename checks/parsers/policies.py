@@ -3,11 +3,11 @@
     policies [--seed N] [--drawn N] [ycc=PATH]
 
 Over N grammars drawn at random (40) and lists of tokens for each, right and wrong ones, parsers
-make the steps of bison's under `most` and under `consistent` with `parse.lac full`, with the same
-texts of errors, and under `sole` those of byacc's: when a token is read, what is shifted and
-reduced, what is popped and discarded after an error, and how a parse ends. The traces of the peers
-tell their steps. `parsers` compares `consistent` with `ystep`. The last line is
-`N passed, M failed`.
+under `most` write the traces of bison's, byte for byte, with the same numbers of states and rules.
+Under `consistent` with `parse.lac full` they make the steps of bison's, with the same texts of
+errors, and under `sole` those of byacc's: when a token is read, what is shifted and reduced, what
+is popped and discarded after an error, and how a parse ends. The traces of the peers tell their
+steps. `parsers` compares `consistent` with `ystep`. The last line is `N passed, M failed`.
 """
 import os
 import random
@@ -85,7 +85,8 @@ class Way(NamedTuple):
     leaves_out: str = ""
 
 
-# Lines of traces, and the steps that they tell.
+# Lines of traces, and the steps that they tell; of a whole trace each line is one.
+WHOLE = {r"(.*)": r"\1"}
 BISON = {
     r"Reducing stack by rule (\d+) .*": r"r \1",
     r'Shifting token "?(?:end of file|\$end).*': "a",
@@ -106,9 +107,9 @@ BYACC = {
 SAYS = "%define parse.error verbose\n"
 PUSHED = ["-Dparse.lac=full", "-Dapi.push-pull=both"]
 WAYS = [
-    Way("most", ["--bison"], ["bison"], BISON),
-    Way("most with LAC", ["--bison", "-Dparse.lac=full"], ["bison", "-Dparse.lac=full"], BISON),
-    Way("most with LAC, by pushes", ["--bison", *PUSHED], ["bison", *PUSHED], BISON),
+    Way("most", ["--bison"], ["bison"], WHOLE),
+    Way("most with LAC", ["--bison", "-Dparse.lac=full"], ["bison", "-Dparse.lac=full"], WHOLE),
+    Way("most with LAC, by pushes", ["--bison", *PUSHED], ["bison", *PUSHED], WHOLE),
     Way(
         "consistent with LAC",
         ["-Dlr.default-reduction=consistent", "-Dparse.lac=full"],
@@ -126,8 +127,9 @@ class Differs(Exception):
 
 def text_of(grammar, way, is_peer):
     """A grammar file with what reads its tokens and tells its steps."""
-    traced = "  yydebug = 1;\n" if is_peer else ""
-    declared = "#define YYDEBUG 1" if is_peer else ""
+    is_traced = is_peer or way.steps is WHOLE
+    traced = "  yydebug = 1;\n" if is_traced else ""
+    declared = "#undef YYSTEP\n#define YYDEBUG 1" if is_traced else ""
     says = "" if way.steps is BYACC else SAYS
     tokens = "".join(f", {it}" for it in grammar.names[1 : grammar.tokens])
     tokens = tokens.replace(", error", ", -1", 1)
@@ -172,7 +174,7 @@ def steps_of(lines, steps):
 
 def own_steps(lines, way):
     """The steps that our parser tells; byacc's trace tells no acceptance."""
-    return [it for it in lines if it != "a" or way.steps is BISON][:MOST]
+    return [it for it in lines if it != "a" or way.steps is not BYACC][:MOST]
 
 
 def is_reduced(grammar):
@@ -205,7 +207,7 @@ def lists_of(grammar, rng):
 def is_by_design(way, wanted, made):
     """Whether steps differ as they may: bison tells of an error before it reads a token where
     `%nonassoc` leaves a state nothing; byacc's parser returns 1 at the end after a discard."""
-    if way.steps is BISON:
+    if way.steps is not BYACC:
         return "e syntax error" in wanted
     return wanted[-3:] == ["d", "l", "= 1"] and made == [*wanted[:-1], "= 0"]
 
@@ -229,7 +231,7 @@ def is_for(way, grammar):
     that reduces at `error` alone, and one to the state that accepts."""
     late = any(1 in rule.body[1:] for rule in grammar.rules)
     lefts = {rule.left for rule in grammar.rules}
-    return way.steps is BISON or not (
+    return way.steps is not BYACC or not (
         late
         or reduces_where_it_accepts(grammar)
         or any(

@@ -135,10 +135,19 @@ class Policies(Planted):
 
     def test_steps_of_bison(self):
         """Another rule, a token read later, no acceptance."""
-        most, right = policies.WAYS[0], "l\ns\nr 2\na\n= 0\n"
+        most = policies.WAYS[0]._replace(steps=policies.BISON)
+        right = "l\ns\nr 2\na\n= 0\n"
         self.assertEqual(self.fault(BISON, right, most), [])
         for old, new in [("r 2", "r 3"), ("l\ns", "s\nl"), ("a\n", ""), ("= 0", "= 1")]:
             self.assertTrue(self.fault(BISON, right.replace(old, new), most))
+
+    def test_traces_of_bison(self):
+        """Another rule, another line of it, a line too few or too many."""
+        most = policies.WAYS[0]
+        self.assertEqual(self.fault(BISON, BISON, most), [])
+        for old, new in [("rule 2", "rule 3"), ("line 16", "line 17"), ("l\n", "l\nl\n")]:
+            self.assertTrue(self.fault(BISON, BISON.replace(old, new), most))
+        self.assertTrue(self.fault(BISON, BISON.replace("Shifting token NUM ()\n", ""), most))
 
     def test_steps_of_byacc(self):
         """The lowest state, which byacc's trace tells of, is not popped."""

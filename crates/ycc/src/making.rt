@@ -15,6 +15,7 @@ use ycode::code_of;
 use yfiles::output::Output;
 use yfiles::same::clash_of;
 use yfiles::writing::write_over;
+use yfindings::walk::Walk;
 use yparts::options::{Header, Options};
 use yskeleton::{Mode, Numbering, Skeleton, Wishes, default_rules, style_of};
 use ytables::{Link, Tables};
@@ -199,6 +200,7 @@ pub fn write_files<'x>(
     let speech = speech_of(rt, given, tables, &style)?;
     let grammar = tables.automaton().grammar();
     let numbering = Numbering::of(alloc, grammar, parts, &code, is_bison)?;
+    let states = Walk::bison_numbers(alloc, tables, &numbering.order)?;
     let skeleton = Skeleton {
         path,
         own_path: names.parser.as_str(),
@@ -207,6 +209,7 @@ pub fn write_files<'x>(
         style: &style,
         code: &code,
         numbering: &numbering,
+        states: &states,
         speech: speech.as_ref(),
     };
     let is_told = tell_found(rt, (given.kinds, is_bison), file, read, &skeleton)?;

@@ -384,6 +384,11 @@ pub const STACK: &str = r##"
     /* The stack: each state but the first stands for the symbol beside it. */
     std::vector<state_type> yystates_;
     std::vector<stack_symbol_type> yystack_;
+@if lac
+
+    /* Whether the token was tried before what is reduced at it. */
+    bool yylooked_;
+@end
 
 #if `DEBUG
     virtual void yy_reduce_print_ (int yyrule) const;

@@ -7,8 +7,19 @@ pub const EXPECTED: &str = r##"
   $::context::expected_tokens (symbol_kind_type yyarg[], int yyargn) const
   {
     int yytokens[YYNTOKENS] = { symbol_kind::^YYEMPTY };
-    const int yycount = yyexpected (&yyparser_.yystates_.back (), static_cast<int> (yyla_.kind ()),
+    const int yywrong = static_cast<int> (yyla_.kind ());
+@if logs
+#if `DEBUG
+    std::ostream *const yylog = yyparser_.yydebug_ ? yyparser_.yycdebug_ : YY_NULLPTR;
+    if (!yyparser_.yylooked_)
+      (void) yycan_come (&yyparser_.yystates_.back (), yywrong, yylog);
+#endif
+    const int yycount = yyexpected (&yyparser_.yystates_.back (), yywrong,
+                                    yyarg ? yytokens : YY_NULLPTR, yyargn YYLOG);
+@else
+    const int yycount = yyexpected (&yyparser_.yystates_.back (), yywrong,
                                     yyarg ? yytokens : YY_NULLPTR, yyargn);
+@end
     int yynoted = yycount;
     if (yycount == 0 && yyargn > 0)
       yynoted = yytokens[0] < 0 ? 1 : yyargn;

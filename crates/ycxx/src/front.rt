@@ -106,29 +106,66 @@ pub const MACROS: &str = r##"
   while (false)
 # define YY_REDUCE_PRINT(Rule) do if (yydebug_) yy_reduce_print_ (Rule); while (false)
 # define YY_STACK_PRINT() do if (yydebug_) yy_stack_print_ (); while (false)
+# define YYENTER() \
+  do \
+    { \
+      YYCDEBUG << "Entering state " << int (yystateno[yystates_.back ()]) << '\n'; \
+      YY_STACK_PRINT (); \
+    } \
+  while (false)
 #else
 # define YYCDEBUG if (false) std::cerr
 # define YY_SYMBOL_PRINT(Title, Symbol) YY_USE (Symbol)
 # define YY_REDUCE_PRINT(Rule) ((void) 0)
 # define YY_STACK_PRINT() ((void) 0)
+# define YYENTER() ((void) 0)
 #endif
 
 @if lac
-/* Before the first action on a token: it is an error where the token can't be shifted after all
-   that would be reduced before it. */
+@if plain
+#define YYCALLED(kind) yysymbols[kind]
+@else
+@if verbose
+#define YYCALLED(kind) yyunquoted (yytname[kind])
+@else
+#define YYCALLED(kind) yytname[kind]
+@end
+@end
+/* The token is looked at from now on, or no longer. */
 #if `DEBUG
-# define YYLAC() \
+# define YYLOOKED() \
   do \
     { \
-      if (!yylooked) \
-        YYCDEBUG << "LAC: initial context established for " << yyla.name () << '\n'; \
-      yyssp = &yystates_.back (); \
-      YYLOOK; \
+      YYCDEBUG << "LAC: initial context established for " << yyla.name () << '\n'; \
+      yylooked_ = true; \
     } \
   while (false)
+# define YYUNLOOK(why) \
+  do \
+    { \
+      if (yylooked_) \
+        YYCDEBUG << "LAC: initial context discarded due to " why "\n"; \
+      yylooked_ = false; \
+    } \
+  while (false)
+# define YYLOGGED , yydebug_ ? yycdebug_ : YY_NULLPTR
 #else
-# define YYLAC() do { yyssp = &yystates_.back (); YYLOOK; } while (false)
+# define YYLOOKED() (yylooked_ = true)
+# define YYUNLOOK(why) (yylooked_ = false)
+# define YYLOGGED
 #endif
+
+/* Before the first action on a token: it is an error where the token can't be shifted after all
+   that would be reduced before it. */
+#define YYLOOK \
+  do \
+    if (!yylooked_) \
+      { \
+        YYLOOKED (); \
+        if (!yycan_come (&yystates_.back (), static_cast<int> (yytoken) YYLOGGED)) \
+          goto yyerrlab; \
+      } \
+  while (false)
 
 @end
 #define yyerrok (yyerrstatus_ = 0)

@@ -126,7 +126,7 @@ pub const PRINT_END: &str = r##"
   {
     *yycdebug_ << "Stack now";
     for (std::size_t yyi = 0; yyi < yystates_.size (); ++yyi)
-      *yycdebug_ << ' ' << int (yystates_[yyi]);
+      *yycdebug_ << ' ' << int (yystateno[yystates_[yyi]]);
     *yycdebug_ << '\n';
   }
 
@@ -135,8 +135,8 @@ pub const PRINT_END: &str = r##"
   {
     const int yycount = yylen[yyrule];
     const stack_symbol_type *yyvsp = &yystack_.back () - yycount;
-    *yycdebug_ << "Reducing stack by rule " << yyrule << " (line " << int (yyrline[yyrule])
-               << "):\n";
+    *yycdebug_ << "Reducing stack by rule " << int (yyruleno[yyrule]) << " (line "
+               << int (yyrline[yyrule]) << "):\n";
     for (int yyi = 1; yyi <= yycount; ++yyi)
       YY_SYMBOL_PRINT ("   \44" << yyi << " =", yyvsp[yyi]);
   }
@@ -168,14 +168,10 @@ pub const BEGIN: &str = r##"
     std::size_t yyerrdepth = 0;
 @end
 @end
-@if lac
-    /* Whether the token was tried before what is reduced at it. */
-    bool yylooked = false;
-    const state_type *yyssp;
-@end
     int yyresult;
 
     YY_USE (yynerrs_);
+@lac     YYUNLOOK ("init");
 #if YY_EXCEPTIONS
     try
 #endif
@@ -193,8 +189,7 @@ pub const READ: &str = r##"
 
   yynewstate:
     yystate = yystates_.back ();
-    YYCDEBUG << "Entering state " << yystate << '\n';
-    YY_STACK_PRINT ();
+    YYENTER ();
 
 @if again
 @else
@@ -237,13 +232,11 @@ pub const MACHINE: &str = r##"
     yyn = yyrow[yystate] + yytoken;
     if (yycheck[yyn] != yytoken)
       {
+@lac         YYLOOK;
         /* Rule 0 is never reduced: a state without reductions has it. */
         yyn = yyusual[yystate];
         if (yyn == 0 || !YYMEMBER (yystate, yytoken))
           goto yyerrlab;
-@if lac
-        YYLAC ();
-@end
         goto yyreduce;
       }
     yyn = yyvalue[yyn];
@@ -254,12 +247,14 @@ pub const MACHINE: &str = r##"
           goto yyerrlab;
         if (yyn != 0)
           {
-@if lac
-            YYLAC ();
-@end
+@lac             YYLOOK;
             goto yyreduce;
           }
+        /* The end is an entry of bison's stack. */
         YY_SYMBOL_PRINT ("Shifting", yyla);
+@lac         YYUNLOOK ("shift");
+        yypush_ (YYNSTATES, yyla);
+        YYENTER ();
         YYSTEP ('a', 0);
         YYACCEPT;
       }
@@ -267,11 +262,7 @@ pub const MACHINE: &str = r##"
     YYSTEP ('s', static_cast<int> (yytoken));
     if (yyerrstatus_ > 0)
       --yyerrstatus_;
-@if lac
-    if (yylooked)
-      YYCDEBUG << "LAC: initial context discarded due to shift\n";
-    yylooked = false;
-@end
+@lac     YYUNLOOK ("shift");
     yypush_ (static_cast<state_type> (yyn), yyla);
     goto yynewstate;
 
@@ -418,11 +409,7 @@ pub const REDUCED: &str = r##"
       YYLLOC_DEFAULT (error_token.location, yyerror_range, 2);
 @end
       YYSTEP ('x', static_cast<int> (yyn));
-@if lac
-      if (yylooked)
-        YYCDEBUG << "LAC: initial context discarded due to error recovery\n";
-      yylooked = false;
-@end
+@lac       YYUNLOOK ("error recovery");
       YY_SYMBOL_PRINT ("Shifting", error_token);
       yypush_ (static_cast<state_type> (yyn), error_token);
 @if locations

@@ -5,12 +5,14 @@ use crate::errors::{EXPECTED, MESSAGE, NAME, PLAIN_NAME, UNQUOTED, VERBOSE_NAME}
 use crate::front::{MACROS, TOKENS};
 use crate::machine::{BEGIN, DESTROY, FREE, MACHINE, MEMBERS, PRINT, PRINT_END, READ, REDUCED};
 use std::alloc::Global;
-use yexplain::lines::is_inner;
 use yexplain::reads::{Made, body_of, left_of};
 use yfiles::output::Output;
 use yparts::options::{Errors, Values};
 use yparts::parts::{Deed, Target};
-use yskeleton::{EXPECTED as LISTS, READING, Spelled, WAYS, put_array};
+use yskeleton::{EXPECTED as LISTS, READING, Spelled, WAYS};
+
+/// What the constructor begins with where tokens are tried.
+const LOOKED: &str = "@lac       , yylooked_ (false)\n";
 
 /// The end of cases by the kinds of symbols.
 const CASES_END: &str = "    default:\n      break;\n    }\n";
@@ -38,30 +40,11 @@ impl Cxx<'_> {
         }
     }
 
-    /// Writes the array of the lines that rules begin on.
-    fn put_lines(&self, alloc: Global, out: &mut Output) -> Made<()> {
-        let (grammar, parts) = (self.skeleton.grammar, self.skeleton.parts);
-        let (mut lines, mut body, mut greatest) = (Vec::new(alloc), 0usize, 0usize);
-        lines.push(0)?;
-        for rule in 1..grammar.rules() {
-            let line = parts.lines.get(body).copied().unwrap_or(0);
-            lines.push(line)?;
-            greatest = greatest.max(line);
-            if !is_inner(grammar, rule) {
-                body = body.saturating_add(1);
-            }
-        }
-        self.skeleton.put_macros(out, "#if @DEBUG\n");
-        put_array(out, "yyrline", &lines, greatest);
-        out.put("#endif\n");
-        Ok(())
-    }
-
     /// Writes the tables, and what reads them beside the class.
     fn put_tables(&self, alloc: Global, out: &mut Output, defaults: &[usize]) -> Made<()> {
         let (skeleton, style) = (&self.skeleton, self.skeleton.style);
         skeleton.put_tables(alloc, out, defaults)?;
-        self.put_lines(alloc, out)?;
+        skeleton.put_shown(alloc, out)?;
         self.put_names(out);
         out.put(READING);
         if !style.has_rows() && (style.asks() || style.looks_ahead()) {
@@ -79,6 +62,7 @@ impl Cxx<'_> {
         out.put_pieces(&[b"\n  ", self.class(), b"::", self.class(), b" ("]);
         self.put_taken(out);
         out.put(")\n    : yystates_ (),\n      yystack_ ()\n");
+        self.put_text(out, LOOKED);
         self.skeleton.put_macros(out, "#if @DEBUG\n");
         out.put("      , yydebug_ (0),\n      yycdebug_ (&std::cerr)\n#endif\n");
         self.put_kept(out);

@@ -1,8 +1,9 @@
-//! The states that a parse can come to, the rules that are reduced there, and their conflicts as
-//! bison counts them.
+//! The states that a parse can come to, the rules that are reduced there, their conflicts as bison
+//! counts them, and the numbers that bison gives the states.
 
 use std::alloc::Global;
 use yexplain::reads::{Made, action_of, candidates_of, goto_of, grammar_of, is_set, set, shift_of};
+use ylalr::END;
 use ysymbols::Sym;
 use ytables::{Action, Class, Tables};
 
@@ -107,6 +108,49 @@ impl Walk {
             walk.look_at(tables, state)?;
         }
         Ok(walk)
+    }
+
+    /// Comes from a state to the next ones in bison's order: by the symbols in this order, also
+    /// where conflicts leave no shift; the end, which is the first, leads to one beside ours.
+    fn go_on(&mut self, tables: &Tables, order: &[Sym], state: usize) -> Made<()> {
+        let automaton = tables.automaton();
+        if matches!(action_of(tables, state, END), Action::Accept) {
+            self.come_to(automaton.states())?;
+        }
+        for symbol in order {
+            if let Some(next) = goto_of(automaton, state, *symbol) {
+                self.come_to(next)?;
+            }
+        }
+        Ok(())
+    }
+
+    /// The numbers that bison gives the states, where it numbers symbols in this order, and after
+    /// them that of the one in which the end is shifted; those that no parse comes to have none.
+    pub fn bison_numbers(alloc: Global, tables: &Tables, order: &[Sym]) -> Made<Vec<usize>> {
+        let states = tables.automaton().states();
+        let kept = Walk::new(alloc, tables)?;
+        let mut walk = Walk {
+            reached: Vec::new(alloc),
+            is_reached: vec![in alloc; false; states.saturating_add(1)]?,
+            reduced: Vec::new(alloc),
+        };
+        walk.come_to(0)?;
+        for at in 0..states.saturating_add(1) {
+            let Some(state) = walk.reached.get(at).copied() else {
+                break;
+            };
+            walk.go_on(tables, order, state)?;
+        }
+        let mut numbers = vec![in alloc; 0; states.saturating_add(1)]?;
+        let mut next = 0usize;
+        for state in &walk.reached {
+            if *state == states || kept.comes_to(*state) {
+                set(&mut numbers, *state, next);
+                next = next.saturating_add(1);
+            }
+        }
+        Ok(numbers)
     }
 
     /// The conflicts in them, as bison counts them: a shift that meets two rules makes one of each

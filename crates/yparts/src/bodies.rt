@@ -108,6 +108,12 @@ impl<'a> Gather<'a, '_> {
             symbol,
             place: 0,
         };
-        self.take_body(rest, left.span.line)
+        let mut sign = left.span.line;
+        for lexeme in rest {
+            if lexeme.kind == Kind::Colon {
+                sign = lexeme.span.line;
+            }
+        }
+        self.take_body(rest, sign)
     }
 }

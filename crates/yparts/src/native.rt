@@ -22,6 +22,8 @@ struct Gather<'a, 'b> {
     left: &'a [u8],
     /// How many symbols and actions of the body came.
     place: usize,
+    /// Whether nothing of the body came.
+    is_new: bool,
     /// How many marks came.
     marks: usize,
 }
@@ -29,7 +31,9 @@ struct Gather<'a, 'b> {
 impl Drop for Gather<'_, '_> {
     // A call in each owner, which keeps their proofs short.
     fn drop(self) {
-        let_go!(self: Gather { source, grammar, spots, parts, actions, tag, left, place, marks });
+        let_go!(self: Gather {
+            source, grammar, spots, parts, actions, tag, left, place, is_new, marks
+        });
     }
 }
 
@@ -62,10 +66,21 @@ impl<'a> Gather<'a, '_> {
         Ok(())
     }
 
-    /// Takes in a lexeme among the rules: what begins a body, a symbol or an action.
+    /// Takes in a lexeme among the rules: what begins a body, a symbol or an action. A body begins
+    /// on the line of its first part, an empty one on that of the sign before it.
     fn take_of_rule(&mut self, mark: &Mark<'a>) -> Made<()> {
         let lexeme = mark.placed.lexeme;
         let name = name_in(lexeme);
+        if let (Role::Symbol(_) | Role::Action(_) | Role::Prec(_), true) = (
+            mark.role,
+            self.is_new,
+        ) {
+            self.is_new = false;
+            let line = self.spots.reach(mark.placed.at).0;
+            if let Some(last) = self.parts.lines.last_mut() {
+                *last = line;
+            }
+        }
         match (mark.role, name) {
             (Role::Left(_), Some(left)) => self.left = left,
             (Role::Symbol(_), name) => return self.take_name(name.unwrap_or(b"")),
@@ -82,8 +97,9 @@ impl<'a> Gather<'a, '_> {
         }
         let names = self.parts.names.len();
         self.parts.bodies.push(names)?;
-        let line = self.spots.reach(mark.placed.at).0;
+        let line = self.spots.reach(mark.placed.end.saturating_sub(1)).0;
         self.parts.lines.push(line)?;
+        self.is_new = true;
         self.place = 0;
         self.take_name(self.left)
     }
@@ -147,6 +163,7 @@ pub fn parts_of<'a>(
         tag: None,
         left: source.get(..0).unwrap_or(&[]),
         place: 0,
+        is_new: false,
         marks: 0,
     };
     for mark in marks {

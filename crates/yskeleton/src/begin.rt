@@ -64,6 +64,10 @@ YYPARSE_DECL()
   /* Whether the token was tried before what is reduced at it. */
   int yylooked = 0;
 @end
+@if lac
+  /* The token before an action. */
+  int yybefore;
+@end
 @if speaks
   /* The tokens that could come in place of a wrong one. */
   int yywants[YYNTOKENS];
@@ -71,21 +75,16 @@ YYPARSE_DECL()
 @end
   int yyresult;
 
-#if YYDEBUG
 @if bison
-@if locations
-# ifdef YYPRINTS_LOCATIONS
-  (void) yylocation_print;
-# endif
-@end
 @else
+#if YYDEBUG
   {
     const char *yylevel = getenv ("YYDEBUG");
     if (yylevel && *yylevel >= '0' && *yylevel <= '9')
       yydebug = *yylevel - '0';
   }
-@end
 #endif
+@end
 @names   (void) yytname;
 @if push
 @kinds   (void) yypstate_expected_tokens;
@@ -124,6 +123,7 @@ YYPARSE_DECL()
 @speaks   yyleaf->yycount = 0;
   *yyssp = 0;
 @end
+@bison   YYTRACE ((stderr, "Starting parse\n"));
 "##;
 
 /// What is kept of a parse into which tokens are pushed, and which tokens could come next in it.

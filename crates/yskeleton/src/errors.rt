@@ -55,39 +55,97 @@ yydoes (int yystate, int yytoken)
   return YYNSTATES + (YYMEMBER (yystate, yytoken) ? YY_CAST (int, yyusual[yystate]) : YYNRULES);
 }
 
+@if lac
+/* What a trace tells of a token that is tried. */
+@if logs
+#if `DEBUG
+# define YYLOG_DECL , std::ostream *yylog
+# define YYLOG , yylog
+# define YYTELL(before, form, what, after) \
+  do { if (yylog) *yylog << before << what << after; } while (false)
+#else
+# define YYLOG_DECL
+# define YYLOG
+# define YYTELL(before, form, what, after) ((void) 0)
+#endif
+@else
+#define YYTELL(before, form, what, after) YYTRACE ((stderr, before form after, what))
+@end
+
+@end
 @if lists
 @else
 /* Whether a token could come: after all reductions before it, it would be shifted. */
 static int
+@if logs
+yycan_come (const yystate_number *yyssp, int yytoken YYLOG_DECL)
+@else
 yycan_come (const yystate_number *yyssp, int yytoken)
+@end
 {
   yyway yywayd;
   int yystate = *yyssp;
   int yyn;
   YYSETOUT (yywayd, yyssp);
+@if lac
+  YYTELL ("LAC: checking lookahead ", "%s", YYCALLED (yytoken), ":");
+@if logs
+@else
+  if (yytoken == YYNTOKENS)
+    {
+      YYTELL (" ", "%s", "Always Err", "\n");
+      return 0;
+    }
+@end
+@end
   for (;;)
     {
       yyn = yydoes (yystate, yytoken) - YYNSTATES;
+@if lac
+      if (yyn == YYNRULES)
+        YYTELL (" ", "%s", "Err", "\n");
+      else if (yyn > 0)
+        YYTELL (" R", "%d", YY_CAST (int, yyruleno[yyn]), "");
+      else
+        YYTELL (" S", "%d", YY_CAST (int, yystateno[YYNSTATES + yyn]), "\n");
+@end
       if (yyn <= 0 || yyn == YYNRULES)
         return yyn != YYNRULES;
       yystate = yygo (&yywayd, yyn);
       if (yystate < 0)
         return 1;
+@lac       YYTELL (" G", "%d", YY_CAST (int, yystateno[yystate]), "");
     }
 }
 
 @if lac
+@if logs
+@else
+/* The token is looked at from now on, or no longer. */
+#define YYLOOKED() \
+  do { \
+    YYTRACE ((stderr, "LAC: initial context established for %s\n", YYCALLED (yytoken))); \
+    yylooked = 1; \
+  } while (0)
+#define YYUNLOOK(why) \
+  do { \
+    if (yylooked) \
+      YYTRACE ((stderr, "LAC: initial context discarded due to " why "\n")); \
+    yylooked = 0; \
+  } while (0)
+
 /* Before the first action on a token: it is an error where the token can't be shifted after all
    that would be reduced before it. */
 #define YYLOOK \
   do { \
     if (!yylooked) \
       { \
-        yylooked = 1; \
+        YYLOOKED (); \
         if (!yycan_come (yyssp, YY_CAST (int, yytoken))) \
           goto yyerrlab; \
       } \
   } while (0)
+@end
 @end
 @if recalls
 /* Before the first action on a token: where it can't be shifted after all that would be reduced
@@ -170,7 +228,11 @@ yyhas (int yystate, int yytoken)
 /* Notes up to so many tokens that could come in place of a wrong one, and gives their number, or 0
    where there are more; without a place for them it counts them all. */
 static int
+@if logs
+yyexpected (const yystate_number *yyssp, int yywrong, int *yytokens, int yymost YYLOG_DECL)
+@else
 yyexpected (const yystate_number *yyssp, int yywrong, int *yytokens, int yymost)
+@end
 {
   int yycount = 0;
   int yyn;
@@ -195,7 +257,11 @@ yyexpected (const yystate_number *yyssp, int yywrong, int *yytokens, int yymost)
 @if lists
       if (yytoken == YYERRTOKEN || !yyhas (yystate, yytoken))
 @else
+@if logs
+      if (yytoken == YYERRTOKEN || !yycan_come (yyssp, yytoken YYLOG))
+@else
       if (yytoken == YYERRTOKEN || !yycan_come (yyssp, yytoken))
+@end
 @end
 @end
         continue;
@@ -300,13 +366,19 @@ static char *
 yysyntax_error (char *yyroom, size_t yysize, const yystate_number *yyssp, int yytoken)
 {
   int yytokens[5];
-  int yycount = 1 + yyexpected (yyssp, yytoken, yytokens + 1, 4);
+  int yycount;
   const char *yyform;
   size_t yylength;
   char *yymsg = yyroom;
   char *yyto;
   int yyn = 0;
 @verbose   (void) yystpcpy;
+@lac   YYTRACE ((stderr, "Constructing syntax error message\n"));
+  yycount = 1 + yyexpected (yyssp, yytoken, yytokens + 1, 4);
+@if lac
+  if (yycount == 1)
+    YYTRACE ((stderr, "No expected tokens.\n"));
+@end
   yytokens[0] = yytoken;
   switch (yycount)
     {
@@ -387,40 +459,3 @@ pub const SWITCH: &str = "  switch (yykind)\n    {\n";
 
 /// The end of the cases.
 pub const SWITCH_END: &str = "    default:\n      break;\n    }\n}\n";
-
-/// How values are shown by a trace, up to the cases.
-pub const SHOW_FRONT: &str = r##"
-#if YYDEBUG
-@if locations
-# define YYSHOW(what, kind, value, location) \
-  do { if (yydebug) yyshow (what, kind, value, location YYMORE); } while (0)
-static void
-yyshow (const char *yywhat, int yykind, YYSTYPE *yyvaluep, YYLTYPE *yylocationp YYMORE_DECL)
-{
-  FILE *yyo = stderr;
-  FILE *yyoutput = yyo;
-  (void) yylocationp;
-@else
-# define YYSHOW(what, kind, value, location) \
-  do { if (yydebug) yyshow (what, kind, value YYMORE); } while (0)
-static void
-yyshow (const char *yywhat, int yykind, YYSTYPE *yyvaluep YYMORE_DECL)
-{
-  FILE *yyo = stderr;
-  FILE *yyoutput = yyo;
-@end
-  (void) yyoutput;
-  (void) yyvaluep;
-  fprintf (yyo, "%sdebug: %s %s (", YYPREFIX, yywhat, yytname[yykind]);
-"##;
-
-/// The end of that.
-pub const SHOW_END: &str = r##"    default:
-      break;
-    }
-  fprintf (yyo, ")\n");
-}
-#else
-# define YYSHOW(what, kind, value, location) ((void) 0)
-#endif
-"##;

@@ -1,11 +1,11 @@
 //! The texts of a parser in C and of its header, and what those of one in C++ have in common with
 //! them.
 //!
-//! `words`, `begin`, `machine` and `errors` have the fixed texts, which read the arrays of `ycode` as its
-//! definitions say, with conditions that `template` knows; `tables` writes the arrays, `numbering`
-//! has the numbers of tokens, and `lists` what is needed for lists as bison has them; `spoken` has
-//! messages for errors, and `strings` writes texts within strings of C. `style` says how the parser
-//! looks; `references` finds the values and places that actions name, `scene` says where they
+//! `words`, `begin`, `machine`, `errors` and `traces` have the fixed texts, which read the arrays
+//! of `ycode` as its definitions say, with conditions that `template` knows; `tables` writes the
+//! arrays, `numbering` has the numbers of tokens, and `lists` what is needed for lists as bison has
+//! them; `spoken` has messages for errors, and `strings` writes texts within strings of C. `style`
+//! says how the parser looks; `references` finds the values and places that actions name, `scene` says where they
 //! stand, `misuse` finds those that are misused, `actions` writes them, and `code` what the file
 //! has; `dialect` tells files of bison by what these name; `declared` has tokens and types, `calls`
 //! functions with their parameters, `push` those of a parser into which tokens are pushed, `cares`
@@ -35,9 +35,10 @@ mod strings;
 mod style;
 mod tables;
 mod template;
+mod traces;
 mod words;
 
-pub use arrays::{put_array, type_of};
+pub use arrays::type_of;
 pub use calls::put_flat;
 pub use declared::{CToken, MEMBERS, in_c, is_c_name};
 pub use dialect::is_of_bison;

@@ -13,6 +13,7 @@ pub const MACHINE: &str = r##"
   *yylsp = yylloc;
 @end
 @end
+@bison   YYENTER ();
   if (yyssp == yysslast)
     goto yygrow;
 
@@ -28,6 +29,7 @@ yyloop:
 @if push
       if (!yyps->yynew)
         {
+          YYTRACE ((stderr, "Return for a new token:\n"));
           yyresult = YYPUSH_MORE;
           goto yypushreturn;
         }
@@ -38,6 +40,7 @@ yyloop:
 @locations       yylloc = yypushed_loc;
 @end
 yyread_pushed_token:
+      YYTRACE ((stderr, "Reading a token\n"));
 @if pure
       yychar = yypushed_char;
       if (yypushed_val)
@@ -48,12 +51,16 @@ yyread_pushed_token:
 @end
 @end
 @else
+@bison       YYTRACE ((stderr, "Reading a token\n"));
       yychar = YYLEX;
 @end
       if (yychar < 0)
         yychar = YYENDTOKEN;
+@if bison
+@else
       YYTRACE ((stderr, "%sdebug: state %u, reading %d (%s)\n", YYPREFIX, yystate, yychar,
                 YYNAME (yychar)));
+@end
     }
   yytoken = YY_CAST (unsigned, YYTRANSLATE (yychar));
   if (yytoken == YYERRTOKEN)
@@ -63,14 +70,21 @@ yyread_pushed_token:
 @locations       yyerror_range[1] = yylloc;
       goto yyrecover;
     }
+@if bison
+  if (yychar == YYENDTOKEN)
+    YYTRACE ((stderr, "Now at end of input.\n"));
+  else
+    YYSHOW ("Next token is", YY_CAST (int, yytoken), &yylval, &yylloc);
+@end
   yyn = yyrow[yystate] + yytoken;
   if (yycheck[yyn] != yytoken)
     {
+@lac       YYLOOK;
       /* Rule 0 is never reduced: a state without reductions has it. */
       yyn = yyusual[yystate];
       if (yyn == 0 || !YYMEMBER (yystate, yytoken))
         goto yyerrlab;
-@looks       YYLOOK;
+@recalls       YYLOOK;
       goto yyreduce;
     }
   yyn = yyvalue[yyn];
@@ -90,21 +104,31 @@ yyread_pushed_token:
 @end
 @if bison
       /* The end is an entry of bison's stack. */
-      if (yyssp + 1 == yysslast && yydepth >= YYMAXDEPTH)
-        YYNOMEM;
-@destroys       YYDESTRUCT (0, &yylval, &yylloc);
+      YYSHOW ("Shifting", 0, &yylval, &yylloc);
+      *++yyvsp = yylval;
+@locations       *++yylsp = yylloc;
       yychar = YYNOTOKEN;
+@lac       YYUNLOOK ("shift");
+      *++yyssp = YY_CAST (yystate_number, YYNSTATES);
+      YYENTER ();
+      if (yyssp == yysslast)
+        goto yygrow;
 @end
       YYSTEP ('a', 0);
       YYACCEPT;
     }
+@if bison
+  YYSHOW ("Shifting", YY_CAST (int, yytoken), &yylval, &yylloc);
+@else
   YYTRACE ((stderr, "%sdebug: state %u, shifting to state %u\n", YYPREFIX, yystate, yyn));
 @prints   YYSHOW ("shifted", YY_CAST (int, yytoken), &yylval, &yylloc);
+@end
   YYSTEP ('s', yychar);
   if (yyerrflag > 0)
     --yyerrflag;
   yychar = YYNOTOKEN;
-@looks   yylooked = 0;
+@lac   YYUNLOOK ("shift");
+@recalls   yylooked = 0;
   yystate = yyn;
 @speaks   yyleaf_of (yyleaf + (yyssp - yyss) + 1, YY_CAST (int, yytoken));
   *++yyvsp = yylval;
@@ -112,13 +136,17 @@ yyread_pushed_token:
 
 yypush:
   *++yyssp = YY_CAST (yystate_number, yystate);
+@bison   YYENTER ();
   if (yyssp == yysslast)
     goto yygrow;
   goto yyloop;
 
 yyreduce:
+@if bison
+@else
   YYTRACE ((stderr, "%sdebug: state %u, reducing by rule %u (%s)\n", YYPREFIX, yystate, yyn,
             yyrule[yyn]));
+@end
   YYSTEP ('r', YY_CAST (int, yyn));
   yym = yylen[yyn];
   if (yym > 0)
@@ -130,6 +158,8 @@ yyreduce:
   yyerror_range[1] = yyloc;
 @end
 @speaks   yyfold (yyleaf + (yyssp - yyss), YY_CAST (int, yym));
+@bison   YYREDUCED (yyn);
+@lac   yybefore = yychar;
   switch (yyn)
     {
 "##;
@@ -139,13 +169,21 @@ pub const END: &str = r##"
     default:
       break;
     }
+@if lac
+  if (yybefore != yychar)
+    YYUNLOOK ("yychar change");
+@end
+@bison   YYSHOW ("-> $$ =", YYNTOKENS + 1 + yylhs[yyn], &yyval, &yyloc);
   YYPOPSTACK (yym);
   *++yyvsp = yyval;
 @locations   *++yylsp = yyloc;
   yym = yylhs[yyn];
   YYGOTO (yystate, *yyssp, yym);
+@if bison
+@else
 @prints   YYSHOW ("made", yystos[yystate], &yyval, &yyloc);
-@destroys   yym = 0;
+@end
+@cleans   yym = 0;
   goto yypush;
 
 yygrow:
@@ -156,7 +194,7 @@ yygrow:
 @locations     YYLTYPE *yynewls;
 @speaks     yyleaves *yynewleaf;
 
-@destroys     yym = 0;
+@cleans     yym = 0;
     if (yydepth >= YYMAXDEPTH)
 @if bison
       YYNOMEM;
@@ -214,13 +252,21 @@ yygrow:
     yylsp = yyls + yyused - 1;
 @end
   }
+@if bison
+  YYTRACE ((stderr, "Stack size increased to %ld\n", YY_CAST (long, yydepth)));
+  if (*yyssp == YYNSTATES)
+    {
+      YYSTEP ('a', 0);
+      YYACCEPT;
+    }
+@end
   goto yyloop;
 
 @if bison
 yybackup:
   if (0)
     goto yybackup; /* so the label is used */
-@destroys   yym = 0;
+  yym = 0;
   goto yyloop;
 
 @end
@@ -233,8 +279,12 @@ yyerrlab:
           YYSTEP ('f', 0);
           YYABORT;
         }
+@if bison
+      YYSHOW ("Error: discarding", YY_CAST (int, yytoken), &yylval, &yylloc);
+@else
       YYTRACE ((stderr, "%sdebug: state %u, error recovery discards token %d (%s)\n", YYPREFIX,
                 yystate, yychar, YYNAME (yychar)));
+@end
       YYSTEP ('d', yychar);
 @if locations
 @if bison
@@ -261,6 +311,17 @@ yyerrlab:
   if (yyerrflag == 0)
     {
 @bison       ++yynerrs;
+@if lac
+@if asks
+#if YYDEBUG
+      if (!yylooked)
+        {
+          YYLOOKED ();
+          (void) yycan_come (yyssp, YY_CAST (int, yytoken));
+        }
+#endif
+@end
+@end
 @if speaks
       if (yysaid[yystate] != 0)
         {
@@ -320,7 +381,8 @@ yyerrorlab:
   ++yynerrs;
   yym = yylen[yyn];
   YYPOPSTACK (yym);
-@destroys   yym = 0;
+@cleans   yym = 0;
+@bison   YYSTACK ();
   yystate = *yyssp;
 
 yyrecover:
@@ -335,17 +397,26 @@ yyrecover:
           YYSTEP ('f', 0);
           YYABORT;
         }
+@if bison
+      YYSHOW ("Error: popping", yystos[yystate], yyvsp, yylsp);
+@else
       YYTRACE ((stderr, "%sdebug: error recovery discarding state %u\n", YYPREFIX, yystate));
+@end
       YYSTEP ('p', YY_CAST (int, yystate));
 @locations       yyerror_range[1] = *yylsp;
 @destroys       YYDESTRUCT (yystos[yystate], yyvsp, yylsp);
       YYPOPSTACK (1);
       yystate = *yyssp;
+@bison       YYSTACK ();
     }
+@if bison
+@else
   YYTRACE ((stderr, "%sdebug: state %u, error recovery shifting to state %u\n", YYPREFIX, yystate,
             yyn));
+@end
   YYSTEP ('x', YY_CAST (int, yyn));
-@looks   yylooked = 0;
+@lac   YYUNLOOK ("error recovery");
+@recalls   yylooked = 0;
   yystate = yyn;
 @speaks   yyleaf_of (yyleaf + (yyssp - yyss) + 1, YYERRTOKEN);
   *++yyvsp = yylval;
@@ -360,6 +431,7 @@ yyrecover:
 @end
 @end
 @end
+@bison   YYSHOW ("Shifting", YYERRTOKEN, yyvsp, yylsp);
   goto yypush;
 
 yyaccept:
@@ -383,20 +455,25 @@ yynomem:
   yyresult = 2;
 
 yyreturn:
-@if destroys
+@idle #if YYDEBUG
+@if cleans
   if (yychar != YYNOTOKEN)
     {
       yytoken = YY_CAST (unsigned, YYTRANSLATE (yychar));
-      YYDESTRUCT (YY_CAST (int, yytoken), &yylval, &yylloc);
+@bison       YYSHOW ("Cleanup: discarding lookahead", YY_CAST (int, yytoken), &yylval, &yylloc);
+@destroys       YYDESTRUCT (YY_CAST (int, yytoken), &yylval, &yylloc);
     }
   /* The symbols of a rule whose action ended the parse are that action's. */
   YYPOPSTACK (yym);
+@bison   YYSTACK ();
   while (yyssp != yyss)
     {
-      YYDESTRUCT (yystos[*yyssp], yyvsp, yylsp);
+@bison       YYSHOW ("Cleanup: popping", yystos[*yyssp], yyvsp, yylsp);
+@destroys       YYDESTRUCT (yystos[*yyssp], yyvsp, yylsp);
       YYPOPSTACK (1);
     }
 @end
+@idle #endif
 @if push
   yyps->yynew = 2;
 

@@ -4,7 +4,8 @@
 use crate::arrays::put_array;
 use std::alloc::Global;
 use ycode::Code;
-use yexplain::reads::{Made, is_set, name_of, set};
+use yexplain::lines::is_inner;
+use yexplain::reads::{Made, is_set, left_of, name_of, set};
 use yfiles::output::Output;
 use ylalr::{ERROR, token_count};
 use yparts::parts::{By, Parts};
@@ -34,9 +35,9 @@ pub struct Numbering {
     pub above: Vec<(usize, Sym)>,
     /// Whether the array is another one than that of the grammar.
     pub is_changed: bool,
-    /// The tokens in the order in which bison numbers them.
+    /// The symbols in the order in which bison numbers them, the tokens first.
     pub order: Vec<Sym>,
-    /// Whether that is another one than that of the grammar.
+    /// Whether that of the tokens is another one than that of the grammar.
     pub is_reordered: bool,
 }
 
@@ -165,8 +166,32 @@ fn fill_by_byacc(alloc: Global, numbers: &mut Vec<Option<usize>>, parts: &Parts<
     Ok(())
 }
 
-/// The tokens in the order of bison: after its own each where `%token` lists it first, or a string
-/// that stands for it is before that; one that no `%token` lists where it is mentioned first.
+/// The nonterminals in the order of bison: each where it is a left side first, and those of the
+/// inner actions of a rule after its left side.
+fn lefts_of(alloc: Global, grammar: &Grammar) -> Made<Vec<Sym>> {
+    let mut is_placed = vec![in alloc; false; grammar.symbols()]?;
+    let (mut lefts, mut inner) = (Vec::new(alloc), Vec::new(alloc));
+    for rule in 0..grammar.rules() {
+        let Some(left) = left_of(grammar, rule) else {
+            continue;
+        };
+        if is_inner(grammar, rule) {
+            inner.push(left)?;
+            continue;
+        }
+        if !is_set(&is_placed, left) {
+            set(&mut is_placed, left, true);
+            lefts.push(left)?;
+        }
+        lefts.extend_from_slice(inner.as_slice())?;
+        inner.clear();
+    }
+    Ok(lefts)
+}
+
+/// The symbols in the order of bison: after its own each token where `%token` lists it first, or a
+/// string that stands for it is before that; one that no `%token` lists where it is mentioned first;
+/// then the nonterminals.
 fn order_of(alloc: Global, grammar: &Grammar, parts: &Parts<'_>) -> Made<Vec<Sym>> {
     let count = token_count(grammar);
     let mut is_listed = vec![in alloc; false; count]?;
@@ -192,6 +217,8 @@ fn order_of(alloc: Global, grammar: &Grammar, parts: &Parts<'_>) -> Made<Vec<Sym
             order.push(*token)?;
         }
     }
+    let lefts = lefts_of(alloc, grammar)?;
+    order.extend_from_slice(lefts.as_slice())?;
     Ok(order)
 }
 

@@ -1,14 +1,13 @@
 //! The text of a parser in C and that of its header, in the order that byacc or bison has.
 
 use crate::begin::BEGIN;
-use crate::errors::{
-    CUSTOM, DESTROY_FRONT, EXPECTED, MESSAGE, SHOW_END, SHOW_FRONT, SWITCH_END, WAYS,
-};
+use crate::errors::{CUSTOM, DESTROY_FRONT, EXPECTED, MESSAGE, SWITCH_END, WAYS};
 use crate::machine::{END, MACHINE};
 use crate::push::PUSHED;
 use crate::skeleton::Skeleton;
 use crate::spoken::SPOKEN;
 use crate::tables::READING;
+use crate::traces::{SHOW_END, SHOW_FRONT};
 use crate::words::{FRONT, INCLUDES, WORDS};
 use std::alloc::Global;
 use yexplain::reads::Made;
@@ -200,10 +199,10 @@ impl Skeleton<'_> {
             self.put_cares(out, Deed::Destroy);
             out.put(SWITCH_END);
         }
-        if style.prints {
+        if style.holds("shows") {
             style.put_fixed(out, SHOW_FRONT);
             self.put_cares(out, Deed::Print);
-            out.put(SHOW_END);
+            style.put_fixed(out, SHOW_END);
         }
         if !style.is_bison() {
             out.put("\n#if ! defined yylex && ! defined YYSTATE\nint YYLEX_DECL();\n#endif\n");
@@ -230,6 +229,7 @@ impl Skeleton<'_> {
         if self.style.is_bison() {
             self.put_bison_front(&mut out);
             self.put_tables(alloc, &mut out, defaults)?;
+            self.put_shown(alloc, &mut out)?;
             self.style.put_fixed(&mut out, WORDS);
             let (prefix, macros) = (self.style.token_prefix(), self.style.macros.as_slice());
             out.put("#define YYNOSYMBOL ");

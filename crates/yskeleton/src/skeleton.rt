@@ -24,6 +24,8 @@ pub struct Skeleton<'a> {
     pub code: &'a Code,
     /// The numbers of tokens.
     pub numbering: &'a Numbering,
+    /// The number that bison gives each state, and the one in which the end is shifted.
+    pub states: &'a [usize],
     /// Messages for errors, where the parser has some.
     pub speech: Option<&'a Speech>,
 }

@@ -5,10 +5,11 @@ use crate::declared::is_c_name;
 use crate::skeleton::Skeleton;
 use crate::strings::{Escaped, put_string};
 use std::alloc::Global;
-use yexplain::reads::{Made, body_of, left_of, name_of};
+use yexplain::lines::is_inner;
+use yexplain::reads::{Made, body_of, is_reachable, left_of, name_of, set};
 use yfiles::output::Output;
 use yinput::spelled::usual_call;
-use ylalr::{ERROR, token_count};
+use ylalr::{END, ERROR, token_count};
 use yparts::options::Errors;
 use ysymbols::Sym;
 
@@ -60,7 +61,18 @@ impl Skeleton<'_> {
                 put_string(out, inner, Escaped::Trigraphs);
             }
             (Some(label), _) => put_string(out, label, Escaped::Quotes),
-            (None, _) => put_string(out, name_of(self.grammar, symbol), Escaped::Quotes),
+            (None, _) => {
+                let mut name = name_of(self.grammar, symbol);
+                if let (true, Some(number)) = (self.style.is_bison(), name.strip_prefix(b"$$")) {
+                    out.put(if self.has_inner_value(symbol) {
+                        "@"
+                    } else {
+                        "$@"
+                    });
+                    name = number;
+                }
+                put_string(out, name, Escaped::Quotes);
+            }
         }
         out.put("\",\n");
     }
@@ -141,27 +153,29 @@ impl Skeleton<'_> {
     /// Writes the names of tokens and rules, for the trace and for texts of errors.
     fn put_names(&self, out: &mut Output) {
         let style = self.style;
+        let has_plain = matches!(style.errors(), Errors::Detailed | Errors::Custom);
         let is_needed = style.options.has_names || style.errors() == Errors::Verbose;
-        out.put(if is_needed {
-            "\n#if YYDEBUG || 1\n"
-        } else {
-            "\n#if YYDEBUG || 0\n"
-        });
-        if style.is_bison() {
-            self.put_symbols(out, "yytname", Spelled::Quoted);
-            out.put("# define YYNAME(c) yytname[YYTRANSLATE (c)]\n");
-        } else {
+        let front = match is_needed {
+            true => "\n#if YYDEBUG || 1\n",
+            false => "\n#if YYDEBUG\n",
+        };
+        if !style.is_bison() {
+            out.put(front);
             self.put_numbered(out);
             out.put("# define yytname yyname\n");
             out.put(BYACC_NAME);
+            out.put("#endif\n#if YYDEBUG\n");
+            self.put_rules(out);
+            out.put("#endif\n");
+        } else if is_needed || !has_plain {
+            out.put(front);
+            self.put_symbols(out, "yytname", Spelled::Quoted);
+            out.put("#endif\n");
         }
-        out.put("#endif\n#if YYDEBUG\n");
-        self.put_rules(out);
-        out.put("#endif\n");
         if style.wishes.speaks {
             self.put_symbols(out, "yycalled", Spelled::Called);
         }
-        if matches!(style.errors(), Errors::Detailed | Errors::Custom) {
+        if has_plain {
             self.put_symbols(out, "yysymbols", Spelled::Plain);
             out.put(SYMBOL_NAME);
             self.put_symbol_name(out);
@@ -239,18 +253,20 @@ impl Skeleton<'_> {
         out.put_pieces(&[b"typedef ", kind, b" yystate_number;\n\n"]);
     }
 
-    /// Writes the kind of the symbol that leads to each state, where it is asked for.
+    /// Writes the kind of the symbol that leads to each state, where it is asked for; to the one
+    /// after all of them leads the end.
     fn put_leading(&self, alloc: Global, out: &mut Output) -> Made<()> {
         let style = self.style;
         let is_traced = !style.destroys;
-        if style.options.is_cxx() || (is_traced && !style.prints) {
+        if style.options.is_cxx() || (is_traced && !style.holds("shows")) {
             return Ok(());
         }
         let symbols = self.code.symbols.as_slice();
-        let mut kinds = Vec::with_capacity(alloc, symbols.len())?;
+        let mut kinds = Vec::new(alloc);
         for symbol in symbols {
             kinds.push(self.kind_of(*symbol))?;
         }
+        kinds.push(END)?;
         out.put(if is_traced { "#if YYDEBUG\n" } else { "" });
         put_array(out, "yystos", &kinds, self.grammar.symbols());
         out.put(if is_traced { "#endif\n" } else { "" });
@@ -289,16 +305,58 @@ impl Skeleton<'_> {
             put_array(out, name, numbers.as_slice(), numbers.greatest());
         }
         self.put_leading(alloc, out)?;
-        if self.style.is_bison() && self.style.asks() && numbering.is_reordered {
-            put_array(out, "yylisted", &numbering.order, code.tokens);
-            out.put("#define YYLISTED(n) yylisted[n]\n");
-        }
-        if self.style.lists() {
-            put_array(out, "yydefault", defaults, code.rules);
-        }
+        self.put_listed(out, defaults);
         if !self.style.options.is_cxx() {
             self.put_names(out);
         }
+        Ok(())
+    }
+
+    /// Writes the order of tokens in lists, where it isn't that of their symbols, and these rules
+    /// that bison would reduce by default, where its lists are wanted.
+    fn put_listed(&self, out: &mut Output, defaults: &[usize]) {
+        let (style, tokens) = (self.style, self.code.tokens);
+        if style.is_bison() && style.asks() && self.numbering.is_reordered {
+            let order = self.numbering.order.get(..tokens).unwrap_or(&[]);
+            put_array(out, "yylisted", order, tokens);
+            out.put("#define YYLISTED(n) yylisted[n]\n");
+        }
+        if style.lists() {
+            put_array(out, "yydefault", defaults, self.code.rules);
+        }
+    }
+
+    /// Writes what a trace shows of rules and states as bison has it: the line that each rule
+    /// begins on, its number among those that can be reached, and the numbers of states, of which
+    /// the last is that of the one in which the end is shifted.
+    pub fn put_shown(&self, alloc: Global, out: &mut Output) -> Made<()> {
+        let (grammar, parts) = (self.grammar, self.parts);
+        let (mut lines, mut numbers) = (Vec::new(alloc), Vec::new(alloc));
+        let (mut body, mut number, mut greatest) = (0usize, 0usize, 0usize);
+        for rule in 0..grammar.rules() {
+            let line = parts.lines.get(body).copied().unwrap_or(0);
+            greatest = greatest.max(line);
+            lines.push(line)?;
+            numbers.push(number)?;
+            let left = left_of(grammar, rule).unwrap_or(0);
+            if rule == 0 || is_reachable(grammar, left) {
+                number = number.saturating_add(1);
+            }
+            if rule > 0 && !is_inner(grammar, rule) {
+                body = body.saturating_add(1);
+            }
+        }
+        for action in &parts.actions {
+            if is_inner(grammar, action.rule) {
+                greatest = greatest.max(action.piece.line);
+                set(&mut lines, action.rule, action.piece.line);
+            }
+        }
+        self.put_macros(out, "#if @DEBUG\n");
+        put_array(out, "yyrline", &lines, greatest);
+        put_array(out, "yyruleno", &numbers, grammar.rules());
+        put_array(out, "yystateno", self.states, self.code.states);
+        out.put("#endif\n");
         Ok(())
     }
 }

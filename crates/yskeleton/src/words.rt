@@ -129,6 +129,7 @@ pub const WORDS: &str = r##"
         yylval = (Value); \
         YYPOPSTACK (yym); \
         yystate = *yyssp; \
+@lac         YYUNLOOK ("YYBACKUP"); \
         goto yybackup; \
       } \
     else \
@@ -139,6 +140,9 @@ pub const WORDS: &str = r##"
   while (0)
 #ifndef YY_
 # define YY_(Text) Text
+#endif
+#ifndef YYFPRINTF
+# define YYFPRINTF fprintf
 #endif
 @else
 #define YY_(Text) Text
@@ -193,7 +197,6 @@ pub const WORDS: &str = r##"
 # if defined YY_LOCATION_PRINT
 #  define YYLOCATION_PRINT(File, Loc) YY_LOCATION_PRINT (File, *(Loc))
 # elif defined YYLTYPE_IS_TRIVIAL && YYLTYPE_IS_TRIVIAL
-#  define YYPRINTS_LOCATIONS 1
 #  define YYLOCATION_PRINT yylocation_print
 #  define YY_LOCATION_PRINT(File, Loc) YYLOCATION_PRINT (File, &(Loc))
 /* Writes a place as lines and columns, and gives how many characters it took. */
@@ -204,20 +207,20 @@ yylocation_print (FILE *yyo, YYLTYPE const *yylocp)
   int yyend = yylocp->last_column != 0 ? yylocp->last_column - 1 : 0;
   if (yylocp->first_line >= 0)
     {
-      yycount += fprintf (yyo, "%d", yylocp->first_line);
+      yycount += YYFPRINTF (yyo, "%d", yylocp->first_line);
       if (yylocp->first_column >= 0)
-        yycount += fprintf (yyo, ".%d", yylocp->first_column);
+        yycount += YYFPRINTF (yyo, ".%d", yylocp->first_column);
     }
   if (yylocp->last_line >= 0)
     {
       if (yylocp->first_line < yylocp->last_line)
         {
-          yycount += fprintf (yyo, "-%d", yylocp->last_line);
+          yycount += YYFPRINTF (yyo, "-%d", yylocp->last_line);
           if (yyend >= 0)
-            yycount += fprintf (yyo, ".%d", yyend);
+            yycount += YYFPRINTF (yyo, ".%d", yyend);
         }
       else if (yyend >= 0 && yylocp->first_column < yyend)
-        yycount += fprintf (yyo, "-%d", yyend);
+        yycount += YYFPRINTF (yyo, "-%d", yyend);
     }
   return yycount;
 }
@@ -240,11 +243,13 @@ yylocation_print (FILE *yyo, YYLTYPE const *yylocp)
 
 #if YYDEBUG
 @if bison
-# ifndef YYFPRINTF
-#  define YYFPRINTF fprintf
-# endif
 # define YYDPRINTF(words) do { if (yydebug) YYFPRINTF words; } while (0)
 # define YYTRACE(words) YYDPRINTF (words)
+@if plain
+# define YYCALLED(kind) yysymbol_name (YY_CAST (yysymbol_kind_t, kind))
+@else
+# define YYCALLED(kind) yytname[kind]
+@end
 @else
 # define YYTRACE(words) do { if (yydebug) fprintf words; } while (0)
 @end

@@ -1,7 +1,6 @@
 %require "3.2"
 %language "c++"
 %define api.value.type variant
-%define lr.default-reduction consistent
 %define parse.trace
 %define parse.error verbose
 %locations
@@ -79,25 +78,6 @@ yy::parser::error (const location_type &place, const std::string &what)
 {
   std::cout << place << ": " << what << '\n';
 }
-// Not the same are the numbers of states, that bison pops the token error and shifts it again after
-// each token that it discards, and what comes of the end once it is shifted.
-static void
-show (std::istream &trace)
-{
-  std::string line;
-  int left_out = 0;
-  while (std::getline (trace, line))
-    {
-      if (line.compare (0, 26, "Error: popping token error") == 0)
-        left_out = 5;
-      if (left_out > 0)
-        --left_out;
-      else if (line.compare (0, 9, "Stack now") && line.compare (0, 14, "Entering state"))
-        std::cout << line << '\n';
-      if (line.compare (0, 18, "Shifting token END") == 0)
-        break;
-    }
-}
 int main ()
 {
   yy::parser it;
@@ -107,8 +87,6 @@ int main ()
   it.set_debug_stream (trace);
   it.set_debug_level (1);
   ended = it.parse ();
-  std::istringstream lines (trace.str ());
-  show (lines);
-  std::cout << ended << ' ' << it.debug_level () << '\n';
+  std::cout << trace.str () << ended << ' ' << it.debug_level () << '\n';
   return 0;
 }
