@@ -15,7 +15,7 @@ same places, but for what bison says of changes that it would make to a file. Of
 doesn't expect bison says no place; of byacc's the line on conflicts counts.
 
 Each file of checks/data/features/graphs begins with a comment `PEER draws: WORDS`: with these words the
-graphs of the peer and of ycc have to be the same, byte for byte, but for the numbers of states.
+graphs of the peer and of ycc have to be the same, byte for byte, but for the numbers of states in byacc's.
 
 Each file of checks/data/features/refused has to be refused with status 1, a message that names the
 file and the line below its comment `refused below: WORDS`, and has these words; no file may be
@@ -337,14 +337,15 @@ def compare_told(file, ycc, _kept):
 
 
 def graph_by(maker, words, file, is_bison):
-    """The lines of the graph that a program draws, with states numbered anew."""
+    """The lines of the graph that a program draws; those of byacc's with states numbered anew."""
     how = ["--graph=parser.dot", "-o", "parser.c"] if is_bison else ["-g", "-b", "parser"]
     with tempfile.TemporaryDirectory() as room:
         shutil.copy(file, room)
         made = run([*maker, *words, *how, file.name], room, env=PLAIN)
         if made.returncode:
             raise Differs(f"{maker}: status {made.returncode}\n{text_of(made.stderr)}")
-        return drawn(Path(f"{room}/parser.dot").read_text())
+        text = Path(f"{room}/parser.dot").read_text()
+    return text.partition("digraph")[2].split("\n") if is_bison else drawn(text)
 
 
 def compare_graph(file, ycc, _kept):

@@ -1,4 +1,4 @@
-"""Graphs of automata as bison, byacc and `ycc` draw them.
+"""Graphs of automata as byacc and `ycc` draw them.
 
 Each numbers states and symbols in its own way: so states are numbered anew, as a walk over ways in
 the order of their names meets them, and the ways of a state are put in the order of these. All else

@@ -241,15 +241,18 @@ class Features(Planted):
     def test_graphs(self):
         """States have other numbers; another edge, another label, a state that isn't there."""
         file = self.room / "some.y"
-        file.write_text("/* bison draws: -Wnone */\n%%\ns : 'a' 'b' ;\n")
-        first = '// bison\n\n  0 [label="State 0\\n\\l"]\n  0 -> 1 [style=solid label="a"]\n'
+        first = '// bison\n\ndigraph {\n  0 [label="State 0\\n\\l"]\n'
+        first += '  0 -> 1 [style=solid label="a"]\n'
         first += '  0 -> 2 [style=dashed label="s"]\n  1 [label="State 1\\n\\l"]\n'
         first += '  2 [label="State 2\\n\\l"]\n  2 -> "2R0" [style=solid]\n "2R0" [label="Acc"]\n}\n'
-        other = first.translate(str.maketrans("12", "21")).replace("bison", "ycc")
-        for text, wrong in (
-            (first, False), (other, False), (other.replace("solid", "dotted", 1), True),
-            (other.replace("Acc", "R1"), True), (first.replace('"2R', '"1R'), True),
+        other = first.translate(str.maketrans("12", "21"))
+        for peer, text, wrong in (
+            ("bison", first.replace("bison", "ycc"), False), ("bison", other, True),
+            ("byacc", other, False), ("byacc", other.replace("solid", "dotted", 1), True),
+            ("byacc", other.replace("Acc", "R1"), True),
+            ("byacc", first.replace('"2R', '"1R'), True),
         ):
+            file.write_text(f"/* {peer} draws: -Wnone */\n%%\ns : 'a' 'b' ;\n")
             graphs = iter([first, text])
 
             def draw(_words, room, **_how):

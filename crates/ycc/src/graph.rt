@@ -47,6 +47,10 @@ pub struct Graph<'a> {
     pub names: &'a [Vec<u8>],
     /// The arrays of the parser.
     pub code: &'a Code,
+    /// The numbers that bison gives the states, and the one in which the end is shifted.
+    pub states: &'a [usize],
+    /// The symbols in bison's order, the tokens first.
+    pub order: &'a [Sym],
 }
 
 /// Writes bytes within quotes.
@@ -105,9 +109,13 @@ impl Graph<'_> {
         out.put("\\l");
     }
 
-    /// Writes a state with its kernel.
-    fn put_state(&self, out: &mut Output, state: usize) {
-        put_head(out, state);
+    /// The number that bison gives a state.
+    fn number(&self, state: usize) -> usize {
+        self.states.get(state).copied().unwrap_or(state)
+    }
+
+    /// Writes the kernel of a state.
+    fn put_kernel(&self, out: &mut Output, state: usize) {
         let mut before = None;
         for item in items_of(self.tables.automaton(), state) {
             if is_kernel(*item) {
@@ -118,11 +126,12 @@ impl Graph<'_> {
         out.put("\"]\n");
     }
 
-    /// Writes where symbols lead from a state: shifts, gotos, and `error`. After all states comes
-    /// the one in which the end is shifted.
+    /// Writes where symbols lead from a state: shifts, gotos, and `error`. After all of ours comes
+    /// the state in which the end is shifted.
     fn put_ways(&self, out: &mut Output, state: usize) {
         let grammar = grammar_of(self.tables);
-        for symbol in 0..grammar.symbols() {
+        for symbol in self.order {
+            let symbol = *symbol;
             let (next, style) = if grammar.is_token(symbol) {
                 match action_of(self.tables, state, symbol) {
                     Action::Shift(next) => (Some(next), "solid"),
@@ -136,9 +145,9 @@ impl Graph<'_> {
                 continue;
             };
             out.put("  ");
-            out.number(state);
+            out.number(self.number(state));
             out.put(" -> ");
-            out.number(next);
+            out.number(self.number(next));
             if symbol == ERROR {
                 out.put(" [style=dotted]\n");
                 continue;
@@ -176,10 +185,11 @@ impl Graph<'_> {
         is_lost: bool,
     ) -> bool {
         let mut any = false;
-        for (token, it) in owned.iter().enumerate() {
-            if *it == is_lost && left_in(self.tables, state, token, rule).has_rule {
+        for token in self.order {
+            let is_meant = owned.get(*token) == Some(&is_lost);
+            if is_meant && left_in(self.tables, state, *token, rule).has_rule {
                 out.put(if any { ", " } else { "" });
-                self.put_name(out, token);
+                self.put_name(out, *token);
                 any = true;
             }
         }
@@ -194,7 +204,7 @@ impl Graph<'_> {
             let is_free = matches!(action_of(self.tables, state, token), Action::Reduce(_));
             owned.push(!is_free)?;
         }
-        let default = self.default_rule(state);
+        let (default, number) = (self.default_rule(state), self.number(state));
         for item in items_of(self.tables.automaton(), state) {
             let rule = item.rule;
             if rule == 0 || !is_complete(grammar, *item) {
@@ -202,13 +212,13 @@ impl Graph<'_> {
             }
             let (mut lost, mut taken) = (Output::new(self.alloc), Output::new(self.alloc));
             if self.put_tokens(&mut lost, (state, rule), &owned, true) {
-                put_reduction(out, (state, rule), Some(&lost), "d", "5");
+                put_reduction(out, (number, rule), Some(&lost), "d", "5");
             }
             let is_taken = self.put_tokens(&mut taken, (state, rule), &owned, false);
             if default == Some(rule) {
-                put_reduction(out, (state, rule), None, "", "3");
+                put_reduction(out, (number, rule), None, "", "3");
             } else if is_taken {
-                put_reduction(out, (state, rule), Some(&taken), "", "3");
+                put_reduction(out, (number, rule), Some(&taken), "", "3");
             }
             for (token, it) in owned.iter_mut().enumerate() {
                 *it = *it || left_in(self.tables, state, token, rule).has_rule;
@@ -283,18 +293,26 @@ impl Graph<'_> {
         out.put(HEAD);
         let walk = Walk::new(self.alloc, self.tables)?;
         let end = self.code.states;
-        for state in 0..end {
-            if walk.comes_to(state) {
-                self.put_state(&mut out, state);
-                self.put_ways(&mut out, state);
-                self.put_reductions(&mut out, state)?;
+        let mut drawn = Vec::new(self.alloc);
+        for state in 0..end.saturating_add(1) {
+            if state == end || walk.comes_to(state) {
+                drawn.push((self.number(state), state))?;
             }
         }
-        put_head(&mut out, end);
-        let dot = body_of(grammar_of(self.tables), 0).len();
-        self.put_item(&mut out, Item { rule: 0, dot }, None);
-        out.put("\"]\n");
-        put_reduction(&mut out, (end, 0), None, "", "1");
+        drawn.sort()?;
+        for (number, state) in &drawn {
+            put_head(&mut out, *number);
+            if *state == end {
+                let dot = body_of(grammar_of(self.tables), 0).len();
+                self.put_item(&mut out, Item { rule: 0, dot }, None);
+                out.put("\"]\n");
+                put_reduction(&mut out, (*number, 0), None, "", "1");
+            } else {
+                self.put_kernel(&mut out, *state);
+                self.put_ways(&mut out, *state);
+                self.put_reductions(&mut out, *state)?;
+            }
+        }
         out.put("}\n");
         out.into_bytes()
     }

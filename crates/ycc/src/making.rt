@@ -125,6 +125,8 @@ fn add_graphs<'a>(
             tables,
             names: &called,
             code: skeleton.code,
+            states: skeleton.states,
+            order: &skeleton.numbering.order,
         };
         let (path, bytes) = match is_bison {
             true => (names.graph.as_str(), graph.text(skeleton.path)?),
