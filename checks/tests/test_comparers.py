@@ -116,11 +116,16 @@ class Conflicts(Planted):
         pairs += [("rule 10 is useless", "rule 9 is useless")]
         pairs += [("state 1  rule 3", "state 2  rule 3"), ("state 2  rule 6", "state 2  rule 7")]
         pairs += [("    state 2  rule 7 (line 11)  q: . y B\n", ""), ("after rule 10", "after rule 9")]
-        pairs += [("1 of 3 conflicts goes", "2 of 3 conflicts go"), ("A and B get", "A and E get")]
         pairs += [("between rule 9", "between rule 11"), ("1 of 3 conflicts st", "2 of 3 conflicts st")]
         gone = report[: report.index("\ngrammar.y:15:1: warning")], report.replace("conflict 2", "conflict two")
         lists = report.replace("  for rule 10 (line 15):\n  tokens  D A . B\n", "")
         self.each_caught(look, report, *changed(report, *pairs), *gone, lists, "")
+
+    def test_offered(self):
+        """A change that settles fewer conflicts than is told, or that names another token."""
+        report, look = self.look("sums-and-products")
+        pairs = ("4 of 4 conflicts go", "3 of 4 conflicts go"), ("'+' and '*' get", "'+' gets")
+        self.each_caught(look, report, *changed(report, *pairs))
 
     def test_covered(self):
         """A rule that isn't covered by those that are named, and a wrong count without it."""

@@ -2,7 +2,9 @@
 
 use crate::events::Events;
 use crate::kinds::names_of;
+use crate::sought::Sought;
 use std::alloc::Global;
+use yexplain::lines::Lines;
 use yexplain::reads::Made;
 use yreports::causes::Causes;
 use ysymbols::Grammar;
@@ -103,8 +105,28 @@ impl CommonSheet {
     }
 }
 
-/// What conflicts have in common.
-pub fn common_sheet(alloc: Global, grammar: &Grammar, causes: &Causes) -> Made<CommonSheet> {
+/// What conflicts have in common, but for changes that nothing offers. What was sought is that for
+/// all conflicts; where only some are shown, no change is told.
+pub fn common_sheet(
+    alloc: Global,
+    (grammar, lines): (&Grammar, &Lines),
+    mut causes: Causes,
+    sought: Option<&Sought>,
+) -> Made<CommonSheet> {
+    let mut offers = Vec::new(alloc);
+    if let Some(sought) = sought {
+        for (place, block) in sought
+            .blocks
+            .list
+            .iter()
+            .take(sought.answers.len())
+            .enumerate()
+        {
+            let has_hints = sought.offer(place, block).has_hints();
+            offers.push((block.first.number, has_hints))?;
+        }
+    }
+    causes.keep_offered(alloc, (grammar, lines), &offers)?;
     let mut sheet = CommonSheet {
         conflicts: causes.all,
         changes: Vec::new(alloc),

@@ -58,7 +58,7 @@ fn sheet_of(
 ) -> io::Result<ConflictSheet> {
     let counts = Counts::of(session.tables());
     let found = Conflicts::new(alloc, session.tables())?;
-    let (cells, others) = (found.cells, found.others);
+    let (cells, others, all) = (found.cells, found.others, found.groups.len());
     let common = if asked.format == Format::Json {
         causes_of(alloc, session.tables(), shown.lines, &found)?
     } else {
@@ -86,7 +86,9 @@ fn sheet_of(
     sheet.kinds = shown.kind_sheets(alloc, grammar, &found, &sought.findings)?;
     sheet.causes = scene.tell(told, &found)?;
     if let Some(common) = common {
-        sheet.common = Some(common_sheet(alloc, grammar, &common)?);
+        let is_whole = found.groups.len() == all;
+        let known = if is_whole { Some(&sought) } else { None };
+        sheet.common = Some(common_sheet(alloc, (grammar, shown.lines), common, known)?);
     }
     Ok(sheet)
 }

@@ -9,7 +9,7 @@ use ymends::mending::{Mended, Mender};
 use yparse::Session;
 use yreports::also::try_hints;
 use yreports::ambiguity::block_answers;
-use yreports::blocks::{Blocks, blocks_of};
+use yreports::blocks::{Block, Blocks, blocks_of};
 use yreports::lost::try_choices;
 use yreports::offer::Offer;
 use yreports::splitting::{Split, Splitter};
@@ -71,6 +71,18 @@ impl Sought {
         try_hints(alloc, tables, lines, conflicts, &mut blocks)?;
         try_choices(alloc, tables, lines, &mut blocks)?;
         Ok(Sought::none(alloc, blocks))
+    }
+
+    /// What is offered for a block, by its place; where nothing was sought, what its hints say.
+    pub fn offer(&self, place: usize, block: &Block) -> Offer {
+        let (Some(finding), Some(answers), Some(mended)) = (
+            self.findings.get(block.first.number),
+            self.answers.get(place),
+            self.mended.get(place),
+        ) else {
+            return Offer::Hints;
+        };
+        Offer::of(finding, answers).beside(mended)
     }
 
     /// Seeks lists for a kind, and where a block begins with it, sentences and changes.

@@ -104,16 +104,6 @@ fn help_lines(alloc: Global, one: &mut Diagnostic, text: &[u8]) -> io::Result<()
     Ok(())
 }
 
-impl<'a> Scene<'a> {
-    /// What is said of idioms and changes with.
-    fn mend_text(self) -> MendText<'a> {
-        MendText {
-            grammar: grammar_of(self.tables),
-            lines: self.shown.lines,
-        }
-    }
-}
-
 impl Scene<'_> {
     /// A kind, alone or with others, as what is said of the first rule that isn't taken.
     fn head(self, cells: (&Kind, Group), tokens: &[String]) -> io::Result<Diagnostic> {
@@ -207,8 +197,8 @@ impl Scene<'_> {
             split.put(&mut text, grammar_of(self.tables), self.shown.lines)?;
         }
         if let Some(mended) = mended {
-            let (words, idioms) = (self.mend_text(), self.sought.idioms.as_slice());
-            words.put(&mut text, idioms, mended)?;
+            let (grammar, lines) = (grammar_of(self.tables), self.shown.lines);
+            MendText { grammar, lines }.put(&mut text, &self.sought.idioms, mended)?;
         }
         help_lines(self.alloc, &mut one, &text)?;
         for class in &block.classes {
@@ -236,15 +226,9 @@ impl Scene<'_> {
                 Some(answers) => answers,
                 None => &[],
             };
-            let mut offer = match finding {
-                Some(finding) => Offer::of(finding, answers),
-                None => Offer::Hints,
-            };
+            let offer = self.sought.offer(place, block);
             let mended = self.sought.mended.get(place);
             let split = self.sought.splits.get(place).copied().flatten();
-            if let Some(mended) = mended {
-                offer = offer.beside(mended);
-            }
             let cause = self.cause(block, answers, (offer, mended, split))?;
             told.add(self.told(block, &cause, (finding, offer), (mended, split))?)?;
             causes.push(cause).map_err(AllocError::from)?;

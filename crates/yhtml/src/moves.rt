@@ -81,6 +81,9 @@ function showConflicts() {
   causes.forEach((cause, place) =>
     add(causeText(cause, place), kinds.filter((kind) => kind.cause === place)));
   add(others, kinds.filter((kind) => kind.cause === null));
+  const untried = "A precedence may lose sentences: ydebug conflicts tries it on some.";
+  const isUntried = causes.some(([, , rules]) => rules.length < 2);
+  if (isUntried) at("kinds").append(make("p", { class: "faint" }, untried));
   if (more) at("kinds").append(make("p", { class: "faint" }, `and ${more} more`));
 }
 

@@ -20,16 +20,22 @@ const MOST_SOUGHT: usize = 40;
 
 /// Which rivals a list allows that was found for a rule.
 fn allows_of(finding: &Finding, rule: usize) -> Option<Allows> {
-    let list = finding.lists.iter().find(|list| list.rules.contains(&rule));
-    list.map(|list| list.allows)
+    for list in &finding.lists {
+        if list.rules.contains(&rule) {
+            return Some(list.allows);
+        }
+    }
+    None
 }
 
 /// Whether the lists that were found for two rivals allow both; `None` where they need no further
 /// search.
 fn are_both(finding: &Finding, rivals: Rivals) -> Option<bool> {
     let allows = allows_of(finding, rivals.second)?;
-    let taken = rivals.first.rule();
-    let lacks = taken.is_some_and(|rule| allows_of(finding, rule).is_none());
+    let lacks = match rivals.first.rule() {
+        Some(rule) => allows_of(finding, rule).is_none(),
+        None => false,
+    };
     match allows {
         Allows::Both => Some(true),
         Allows::One if !lacks => Some(false),
@@ -79,7 +85,12 @@ pub fn answers_of(
 
 /// Whether a sentence with two trees is among what was found.
 pub fn are_twins(answers: &[Answer]) -> bool {
-    answers.iter().any(|answer| answer.twins.is_some())
+    for answer in answers {
+        if answer.twins.is_some() {
+            return true;
+        }
+    }
+    false
 }
 
 /// What can be found for the first conflict of a block; where that is no sentence with two trees,
@@ -129,8 +140,12 @@ pub fn put_answers<W: Write>(
             return text.put_twins(alloc, page, twins);
         }
     }
-    let is_sought = answers.iter().any(|answer| answer.is_sought);
-    if is_sought && count > 0 && answers.iter().all(|answer| answer.is_whole) {
+    let (mut is_sought, mut is_whole) = (false, true);
+    for answer in answers {
+        is_sought = is_sought || answer.is_sought;
+        is_whole = is_whole && answer.is_whole;
+    }
+    if is_sought && count > 0 && is_whole {
         let _ = writeln!(
             page,
             "  None of the sentences of up to {most} tokens ({count}) has two trees here."

@@ -40,9 +40,15 @@ fn number_after(block: &Block, last: Option<usize>) -> Option<usize> {
     for class in &block.classes {
         for entry in &class.entries {
             let number = entry.number;
-            if last.is_none_or(|it| number > it) && next.is_none_or(|it| number < it) {
-                next = Some(number);
-            }
+            let is_after = match last {
+                Some(last) => number > last,
+                None => true,
+            };
+            next = match next {
+                Some(next) if next <= number || !is_after => Some(next),
+                None if !is_after => None,
+                _ => Some(number),
+            };
         }
     }
     next

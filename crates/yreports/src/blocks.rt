@@ -148,9 +148,10 @@ impl Blocks {
 
     /// The place of the block of a conflict, which is begun where there is none.
     fn place(&mut self, alloc: Global, entry: Entry) -> Made<usize> {
-        let mut blocks = self.list.iter();
-        if let Some(place) = blocks.position(|block| block.first.is_alike(&entry)) {
-            return Ok(place);
+        for (place, block) in self.list.iter().enumerate() {
+            if block.first.is_alike(&entry) {
+                return Ok(place);
+            }
         }
         let place = self.list.len();
         self.list.push(Block {
@@ -205,8 +206,10 @@ pub fn blocks_of(alloc: Global, tables: &Tables, lines: &Lines, found: &Conflict
             kind: *kind,
             group: *group,
         };
-        let last = blocks.list.last();
-        let is_begun = last.is_some_and(|block| block.first.is_beside(&entry));
+        let is_begun = match blocks.list.last() {
+            Some(block) => block.first.is_beside(&entry),
+            None => false,
+        };
         if blocks.list.len() >= MOST_BLOCKS && !is_begun {
             break;
         }

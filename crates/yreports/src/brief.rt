@@ -20,6 +20,9 @@ const EXPLAINED: usize = 20;
 
 const NAMED: usize = 1_000;
 
+/// What is said of changes that were tried on cells alone.
+const UNTRIED: &str = "  A precedence may lose sentences: ydebug conflicts tries it on some.";
+
 /// Writes why the conflicts of a block are settled so; how to choose isn't said, since that wants
 /// to be tried.
 pub fn put_why<W: Write>(page: &mut Page<W>, tables: &Tables, lines: &Lines, block: &Block) {
@@ -51,6 +54,9 @@ pub fn put_brief<W: Write>(
     if let Some(causes) = causes_of(alloc, tables, lines, &found)? {
         // The page remembers a fault.
         let _ = CauseText { grammar, lines }.put(page, &causes);
+        if !causes.changes.is_empty() {
+            page.line(UNTRIED);
+        }
     }
     for (place, block) in blocks.list.iter().take(NAMED).enumerate() {
         let _ = put_cell(page, block.first.cell(tables, lines));

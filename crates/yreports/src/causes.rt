@@ -44,6 +44,8 @@ pub struct Change {
 pub struct Causes {
     /// How many conflicts there are.
     pub all: usize,
+    /// The cells on which changes are tried.
+    cells: Vec<Tried>,
     /// Changes that settle some, each with those before it.
     pub changes: Vec<Change>,
     /// How many conflicts are between each two rules, whatever precedences they have.
@@ -55,11 +57,46 @@ pub struct Causes {
 impl Drop for Causes {
     // A call in each owner, which keeps their proofs short.
     fn drop(self) {
-        let_go!(self: Causes { all, changes, pairs, covered });
+        let_go!(self: Causes { all, cells, changes, pairs, covered });
     }
 }
 
 impl Causes {
+    /// Keeps the changes for which hints are offered, at a conflict that they settle and at no such
+    /// conflict none, and counts anew what each settles beside those before it. Conflicts are told by
+    /// their numbers, each with whether hints are offered.
+    pub fn keep_offered(
+        &mut self,
+        alloc: Global,
+        (grammar, lines): (&Grammar, &Lines),
+        offers: &[(usize, bool)],
+    ) -> Made<()> {
+        let (mut marks, mut left) = (Marks::new(alloc, grammar)?, self.all);
+        let mut kept = Vec::new(alloc);
+        for change in &self.changes {
+            let (mut is_offered, mut is_refused) = (false, false);
+            for (number, has_hints) in offers {
+                if change.kinds.contains(number) {
+                    is_offered = is_offered || *has_hints;
+                    is_refused = is_refused || !*has_hints;
+                }
+            }
+            let next = marks.with(alloc, &change.tokens, change.rule)?;
+            let less = counted(grammar, lines, &next, &self.cells);
+            if less < left && is_offered && !is_refused {
+                kept.push(Change {
+                    tokens: Vec::from_slice(alloc, &change.tokens)?,
+                    rule: change.rule,
+                    settles: left.saturating_sub(less),
+                    kinds: Vec::from_slice(alloc, &change.kinds)?,
+                })?;
+                (marks, left) = (next, less);
+            }
+        }
+        self.changes = kept;
+        Ok(())
+    }
+
     /// Counts the conflicts between each two rules in cells that can't be shifted.
     fn count_pairs(&mut self, alloc: Global, found: &Conflicts) -> Made<()> {
         let mut met = Distinct::new(alloc);
@@ -99,9 +136,12 @@ impl Causes {
             }
         }
         let both = (kind.taken()?, *kind.others().first()?);
-        let mut pairs = self.pairs.iter();
-        let place = pairs.position(|(pair, _)| *pair == both)?;
-        Some(self.changes.len().saturating_add(place))
+        for (place, (pair, _)) in self.pairs.iter().enumerate() {
+            if *pair == both {
+                return Some(self.changes.len().saturating_add(place));
+            }
+        }
+        None
     }
 }
 
@@ -188,8 +228,11 @@ fn changes_of(
 ) -> Made<Vec<Change>> {
     let mut classes = Classes::new(alloc, grammar.symbols())?;
     let mut changes = Vec::new(alloc);
-    let contests = cells.iter().map(|cell| cell.contest);
-    for contest in contests.filter(|it| it.shift.is_some() && it.token != END) {
+    for cell in cells {
+        let contest = cell.contest;
+        if contest.shift.is_none() || contest.token == END {
+            continue;
+        }
         for rule in contest.rules().unwrap_or(&[]) {
             match lines.giver(grammar, *rule) {
                 Some(giver) => classes.note(grammar, contest.token, giver),
@@ -220,7 +263,10 @@ fn push_own(
     rule: usize,
     token: Sym,
 ) -> Made<()> {
-    let is_there = changes.iter().any(|it| it.rule == Some(rule));
+    let mut is_there = false;
+    for change in changes.iter() {
+        is_there = is_there || change.rule == Some(rule);
+    }
     if is_there || is_inner(grammar, rule) || changes.len() >= MOST_CHANGES {
         return Ok(());
     }
@@ -244,9 +290,10 @@ impl Seeker<'_> {
         for (place, change) in changes.iter().enumerate() {
             let marks = self.marks.with(self.alloc, &change.tokens, change.rule)?;
             let left = counted(self.grammar, self.lines, &marks, self.cells);
-            if best.is_none_or(|(_, least)| left < least) {
-                best = Some((place, left));
-            }
+            best = match best {
+                Some((best, least)) if least <= left => Some((best, least)),
+                _ => Some((place, left)),
+            };
         }
         Ok(best)
     }
@@ -326,16 +373,19 @@ pub fn causes_of(
     let barred = barred_of(alloc, tables)?;
     let changes = changes_of(alloc, grammar, lines, (&cells, &barred))?;
     let marks = Marks::new(alloc, grammar)?;
-    let mut seeker = Seeker {
-        alloc,
-        grammar,
-        lines,
-        cells: cells.as_slice(),
-        marks,
+    let changes = {
+        let mut seeker = Seeker {
+            alloc,
+            grammar,
+            lines,
+            cells: cells.as_slice(),
+            marks,
+        };
+        seeker.choose(changes, all)?
     };
-    let changes = seeker.choose(changes, all)?;
     let mut causes = Causes {
         all,
+        cells,
         changes,
         pairs: Vec::new(alloc),
         covered: Vec::new(alloc),

@@ -29,8 +29,11 @@ impl Offer {
         if answers.is_empty() || are_twins(answers) {
             Offer::Hints
         } else if is_merged(finding) {
-            let mut lists = finding.lists.iter();
-            Offer::Split(!lists.any(|list| list.allows != Allows::One))
+            let mut is_each = true;
+            for list in &finding.lists {
+                is_each = is_each && list.allows == Allows::One;
+            }
+            Offer::Split(is_each)
         } else {
             Offer::Lookahead
         }

@@ -13,11 +13,10 @@ use crate::lost::try_choices;
 use crate::offer::Offer;
 use crate::splitting::Splitter;
 use crate::warnings::warnings_of;
-use std::alloc::Global;
+use std::alloc::{AllocError, Global};
 use std::io::{self, Write};
 use std::rt::Files;
 use yambiguity::answer::Ambiguities;
-use yambiguity::trees::Trees;
 use yexplain::lines::Lines;
 use yexplain::reads::{Made, body_of, grammar_of, items_of, left_of, next_of};
 use yexplain::sources::sources_of;
@@ -65,14 +64,17 @@ pub struct Asked<'a> {
 
 /// What conflicts are written with.
 #[derive(Drop)]
-struct Report<'a, W, F> {
+struct Report<'a, F> {
     alloc: Global,
-    page: &'a mut Page<W>,
+    /// The text of the blocks, which is kept until it is known which changes they offer.
+    page: Page<Vec<u8>>,
     path: &'a str,
     lines: &'a Lines,
     folder: Folder<'a, F>,
     /// For how many more conflicts copies of nonterminals are tried.
     splits: Splitter,
+    /// The conflicts that were told whole, by their numbers, and whether hints are offered for them.
+    offers: Vec<(usize, bool)>,
 }
 
 /// The causes of the blocks that were told, each with the number of its first conflict.
@@ -82,12 +84,6 @@ struct Told {
 }
 
 impl Told {
-    fn new(alloc: Global) -> Told {
-        Told {
-            causes: Vec::new(alloc),
-        }
-    }
-
     /// The first conflict that was told of a cause; where there is none, this one is noted.
     fn first(&mut self, cause: Option<usize>, number: usize) -> Made<Option<usize>> {
         let Some(cause) = cause else {
@@ -115,15 +111,6 @@ fn block_text<'t>(
         tables,
         lines,
         offer,
-    }
-}
-
-/// What sentences with two trees are written with.
-fn tree_text<'t>(grammar: &'t Grammar, lines: &'t Lines, trees: &'t Trees) -> AmbiguityText<'t> {
-    AmbiguityText {
-        grammar,
-        lines,
-        trees,
     }
 }
 
@@ -178,7 +165,7 @@ fn cause_of(
     Some(mender.idioms.len().saturating_add(place))
 }
 
-impl<W: Write, F: Files + AllocGlobal + Clone + Drop> Report<'_, W, F> {
+impl<F: Files + AllocGlobal + Clone + Drop> Report<'_, F> {
     /// Writes the conflicts of the first states, with lists, as long as there are steps to seek
     /// them, and says how many kinds these are.
     fn put_blocks(
@@ -193,9 +180,14 @@ impl<W: Write, F: Files + AllocGlobal + Clone + Drop> Report<'_, W, F> {
         let mut mender = Mender::new(self.alloc, seeker.session.tables())?;
         let (path, lines) = (self.path, self.lines);
         let mut last: Option<&Block> = None;
-        let mut told = Told::new(self.alloc);
+        let mut told = Told {
+            causes: Vec::new(self.alloc),
+        };
         for block in list {
-            let is_beside = last.is_some_and(|last| last.first.is_beside(&block.first));
+            let is_beside = match last {
+                Some(last) => last.first.is_beside(&block.first),
+                None => false,
+            };
             if !is_beside && !seeker.finder.has_steps() {
                 return Ok(block.first.number);
             }
@@ -203,12 +195,32 @@ impl<W: Write, F: Files + AllocGlobal + Clone + Drop> Report<'_, W, F> {
             let text = block_text(path, lines, seeker.session.tables(), Offer::Hints);
             let cause = cause_of(&mender, text.tables, causes, block);
             if let Some(number) = told.first(cause, block.first.number)? {
-                text.put_as(self.page, block, number);
+                text.put_as(&mut self.page, block, number);
                 continue;
             }
             self.put_whole((&mut seeker, &mut found, &mut mender), block)?;
         }
         Ok(blocks.kinds)
+    }
+
+    /// Writes all conflicts that are shown: the blocks, as far as there are steps, and the rest.
+    fn put_shown(
+        &mut self,
+        session: &mut Session,
+        found: &Conflicts,
+        causes: Option<&Causes>,
+    ) -> io::Result<()> {
+        if found.groups.is_empty() {
+            return Ok(());
+        }
+        self.folder.make()?;
+        let (alloc, lines) = (self.alloc, self.lines);
+        let mut blocks = blocks_of(alloc, session.tables(), lines, found)?;
+        try_hints(alloc, session.tables(), lines, found, &mut blocks)?;
+        try_choices(alloc, session.tables(), lines, &mut blocks)?;
+        let first = self.put_blocks(session, &blocks, causes)?;
+        self.put_rest(session.tables(), found, first, blocks.kinds);
+        Ok(())
     }
 
     /// Writes a block whole: its first conflict, lists and sentences for its rivals, what is offered,
@@ -226,53 +238,33 @@ impl<W: Write, F: Files + AllocGlobal + Clone + Drop> Report<'_, W, F> {
         let cells = (&block.first.kind, block.first.group);
         let mended = mender.mend(tables, lines, cells, offer.is_open())?;
         let offer = offer.beside(&mended);
+        let offered = (block.first.number, offer.has_hints());
+        self.offers.push(offered).map_err(AllocError::from)?;
         self.put_block(tables, block, offer)?;
         self.put_finding(tables, block, &finding)?;
-        let text = tree_text(grammar_of(tables), self.lines, &found.trees);
-        put_answers(self.alloc, self.page, text, &answers, mender.bound())?;
+        let text = AmbiguityText {
+            grammar: grammar_of(tables),
+            lines,
+            trees: &found.trees,
+        };
+        put_answers(self.alloc, &mut self.page, text, &answers, mender.bound())?;
         let text = block_text(self.path, lines, tables, offer);
-        text.put_offer(self.page);
-        let (grammar, lines) = (grammar_of(tables), self.lines);
-        MendText { grammar, lines }.put(self.page, &mender.idioms, &mended)?;
-        text.put_further(self.page, block);
+        text.put_offer(&mut self.page);
+        let grammar = grammar_of(tables);
+        MendText { grammar, lines }.put(&mut self.page, &mender.idioms, &mended)?;
+        text.put_further(&mut self.page, block);
         Ok(())
-    }
-
-    /// Writes how many conflicts there are, and what they come from, which it gives.
-    fn put_counted(&mut self, tables: &Tables, found: &Conflicts) -> io::Result<Option<Causes>> {
-        let mut causes = None;
-        self.page.put(self.path);
-        if found.cells == 0 {
-            self.page.line(": no conflicts");
-        } else {
-            self.page.put(": ");
-            let blocks = blocks_of(self.alloc, tables, self.lines, found)?;
-            put_counts(self.page, tables, found, blocks.groups(found));
-            let text = CauseText {
-                grammar: grammar_of(tables),
-                lines: self.lines,
-            };
-            causes = causes_of(self.alloc, tables, self.lines, found)?;
-            if let Some(causes) = &causes {
-                text.put(self.page, causes)?;
-                if !causes.changes.is_empty() {
-                    self.page.line(MAY_LOSE);
-                }
-            }
-        }
-        self.page.checked()?;
-        Ok(causes)
     }
 
     /// Writes the conflicts of a block, why they are settled so, what leads to the shift of the
     /// first one, and where its token comes from.
     fn put_block(&mut self, tables: &Tables, block: &Block, offer: Offer) -> Made<()> {
-        block_text(self.path, self.lines, tables, offer).put(self.page, block);
+        block_text(self.path, self.lines, tables, offer).put(&mut self.page, block);
         let asked = block.first.cell(tables, self.lines);
-        put_leading(self.alloc, self.page, asked)?;
+        put_leading(self.alloc, &mut self.page, asked)?;
         let reasons = Reasons::of(self.alloc, tables.automaton())?;
         let sources = sources_of(self.alloc, &reasons, asked)?;
-        let _ = asked.put_sources(self.page, &sources);
+        let _ = asked.put_sources(&mut self.page, &sources);
         Ok(())
     }
 
@@ -287,22 +279,23 @@ impl<W: Write, F: Files + AllocGlobal + Clone + Drop> Report<'_, W, F> {
             group: entry.group,
             lists: finding.lists.len(),
         };
-        text.put_merged(self.page, finding);
+        text.put_merged(&mut self.page, finding);
         let (alloc, lines) = (self.alloc, self.lines);
         if let Some(split) = self
             .splits
             .split(alloc, (tables, lines), &entry.kind, finding)?
         {
-            split.put(self.page, grammar_of(tables), lines)?;
+            split.put(&mut self.page, grammar_of(tables), lines)?;
         }
         for (part, list) in finding.lists.iter().enumerate() {
-            text.put_list(self.page, list);
+            text.put_list(&mut self.page, list);
             if let Some((tokens, last)) = file_tokens(list, entry.kind.token) {
                 let (name, grammar) = ((number, part), grammar_of(tables));
-                self.folder.keep(self.page, grammar, name, tokens, last)?;
+                let page = &mut self.page;
+                self.folder.keep(page, grammar, name, tokens, last)?;
             }
         }
-        put_unfound(self.page, finding);
+        put_unfound(&mut self.page, finding);
         self.page.checked()
     }
 
@@ -319,52 +312,102 @@ impl<W: Write, F: Files + AllocGlobal + Clone + Drop> Report<'_, W, F> {
                 " more, without lists of tokens:"
             });
             let named = (first, first.saturating_add(MOST_NAMED));
-            put_named(self.page, tables, self.lines, found, named);
+            put_named(&mut self.page, tables, self.lines, found, named);
         }
     }
+}
+
+/// Writes how many conflicts there are; their blocks are sought after that.
+fn put_counted<W: Write>(
+    alloc: Global,
+    page: &mut Page<W>,
+    path: &str,
+    (tables, lines): (&Tables, &Lines),
+    found: &Conflicts,
+) -> io::Result<()> {
+    page.put(path);
+    if found.cells == 0 {
+        page.line(": no conflicts");
+    } else {
+        page.put(": ");
+        let blocks = blocks_of(alloc, tables, lines, found)?;
+        put_counts(page, tables, found, blocks.groups(found));
+    }
+    page.flush()
+}
+
+/// Writes what the conflicts come from, but for changes that no block offers.
+fn put_causes<W: Write>(
+    alloc: Global,
+    page: &mut Page<W>,
+    (grammar, lines): (&Grammar, &Lines),
+    mut causes: Causes,
+    offers: &[(usize, bool)],
+) -> io::Result<()> {
+    causes.keep_offered(alloc, (grammar, lines), offers)?;
+    CauseText { grammar, lines }.put(&mut *page, &causes)?;
+    if !causes.changes.is_empty() {
+        page.line(MAY_LOSE);
+    }
+    page.checked()
 }
 
 /// Writes the conflicts of a grammar, with lists of tokens, and says which file couldn't be
 /// written, if one couldn't.
 fn put_lists<'a, W: Write, F: Files + AllocGlobal + Clone + Drop>(
     rt: &'a F,
-    page: &'a mut Page<W>,
+    page: &mut Page<W>,
     asked: Asked<'a>,
     session: &mut Session,
     lines: &'a Lines,
     found: Conflicts,
 ) -> io::Result<Option<String>> {
-    let folder = Folder {
-        rt,
-        path: asked.save,
-        name: LIST_NAME,
-        failed: None,
-    };
-    let mut report = Report {
-        alloc: rt.alloc(),
+    let (alloc, all) = (rt.alloc(), found.groups.len());
+    put_counted(
+        alloc,
         page,
+        asked.grammar,
+        (session.tables(), lines),
+        &found,
+    )?;
+    let mut report = Report {
+        alloc,
+        page: Page::new(Vec::new(alloc), false),
         path: asked.grammar,
         lines,
-        folder,
+        folder: Folder {
+            rt,
+            path: asked.save,
+            name: LIST_NAME,
+            failed: None,
+        },
         splits: Splitter::new(),
+        offers: Vec::new(alloc),
     };
-    let mut causes = report.put_counted(session.tables(), &found)?;
     report.folder.clear()?;
-    let all = found.groups.len();
-    let found = shown_of(report.alloc, found, asked.choice.shown)?;
-    if asked.is_whole || found.groups.len() < all {
-        // causes know all kinds by their numbers
-        causes = None;
+    let causes = causes_of(alloc, session.tables(), lines, &found)?;
+    let found = shown_of(alloc, found, asked.choice.shown)?;
+    // causes know all kinds by their numbers
+    let is_part = found.groups.len() < all;
+    let known = if asked.is_whole || is_part {
+        None
+    } else {
+        causes.as_ref()
+    };
+    report.put_shown(session, &found, known)?;
+    let Report {
+        page: text,
+        folder,
+        offers,
+        ..
+    } = report;
+    if let Some(causes) = causes {
+        let offers: &[(usize, bool)] = if is_part { &[] } else { &offers };
+        let grammar = grammar_of(session.tables());
+        put_causes(alloc, page, (grammar, lines), causes, offers)?;
     }
-    if !found.groups.is_empty() {
-        report.folder.make()?;
-        let mut blocks = blocks_of(report.alloc, session.tables(), lines, &found)?;
-        try_hints(report.alloc, session.tables(), lines, &found, &mut blocks)?;
-        try_choices(report.alloc, session.tables(), lines, &mut blocks)?;
-        let first = report.put_blocks(session, &blocks, causes.as_ref())?;
-        report.put_rest(session.tables(), &found, first, blocks.kinds);
-    }
-    let Report { folder, .. } = report;
+    text.checked()?;
+    page.write_all(&text.into_out())?;
     let Folder { failed, .. } = folder;
     Ok(failed)
 }
@@ -380,8 +423,10 @@ fn put_all<W: Write, E: Write, F: Files + AllocGlobal + Clone + Drop>(
 ) -> io::Result<u8> {
     let (alloc, choice) = (rt.alloc(), asked.choice);
     let found = Conflicts::new(alloc, session.tables())?;
-    let mut kinds = found.groups.iter();
-    let is_bad = asked.is_open && kinds.any(|(kind, _)| choice.fails_by(category_of(kind)));
+    let mut is_bad = false;
+    for (kind, _) in &found.groups {
+        is_bad = is_bad || asked.is_open && choice.fails_by(category_of(kind));
+    }
     let failed = put_lists(rt, &mut *page, asked, session, lines, found)?;
     let warnings = warnings_of(alloc, asked.grammar, session.tables(), lines)?;
     let mut warnings = warnings.only(alloc, choice.shown)?;

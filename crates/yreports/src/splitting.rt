@@ -41,7 +41,7 @@ pub struct Split {
 fn users_of(alloc: Global, grammar: &Grammar, symbol: Sym) -> Made<Vec<usize>> {
     let mut users = Vec::new(alloc);
     for rule in 1..grammar.rules() {
-        if body_of(grammar, rule).iter().any(|it| *it == symbol) {
+        if body_of(grammar, rule).contains(&symbol) {
             users.push(rule)?;
         }
     }
@@ -58,7 +58,11 @@ fn copies_of(alloc: Global, grammar: &Grammar, rules: &[usize]) -> Made<Vec<(Sym
         let Some(symbol) = left_of(grammar, *rule) else {
             continue;
         };
-        if is_inner(grammar, *rule) || copies.iter().any(|(it, _)| *it == symbol) {
+        let mut is_there = is_inner(grammar, *rule);
+        for (it, _) in &copies {
+            is_there = is_there || *it == symbol;
+        }
+        if is_there {
             continue;
         }
         for user in &users_of(alloc, grammar, symbol)? {
