@@ -22,6 +22,7 @@ from checks.shared import running
 from checks.shared.arguments import asked
 from checks.shared.grammars import productive, tokens_of
 from checks.shared.libraries import compiler
+from checks.shared.tables import Canonical, Tables, merged
 from checks.shared.tally import Tally
 
 # How many lists of tokens a parser gets, and how many lines of steps are compared.
@@ -76,7 +77,8 @@ int main (void)
 class Way(NamedTuple):
     """A policy: the words that ask both for it, the peer, how its trace tells steps, and which
     kinds are left out: our consistent states are those of which conflicts leave one reduction too,
-    so they are more than bison's, and reduce before a token that is then an error."""
+    so they are more than bison's, and reduce before a token that is then an error. Where a grammar
+    has such a state, what a recovery finds on the stack differs too."""
 
     name: str
     ycc: list
@@ -240,8 +242,24 @@ def is_for(way, grammar):
     )
 
 
+def leaves_one(grammar):
+    """Whether conflicts leave one reduction of several to a state that reads no token."""
+    order, items, _ = merged(Canonical(grammar))
+    bodies = [rule.body for rule in grammar.rules]
+    complete = [{rule for rule, dot, _ in items[it] if dot == len(bodies[rule])} for it in order]
+    return any(len(complete[state]) > 1 for state in Tables(grammar).defaults)
+
+
+def compared(way, steps, is_cut):
+    """The steps that are compared: where they are cut, those up to the first error."""
+    kept = [it for it in steps if it[0] not in way.leaves_out]
+    ends = [at for at, it in enumerate(kept) if is_cut and it.startswith("e ")]
+    return kept[: ends[0] + 1] if ends else kept
+
+
 def compare(way, grammar, lists, ycc):
     """Both parsers of a grammar on lists of tokens."""
+    is_cut = bool(way.leaves_out) and leaves_one(grammar)
     with tempfile.TemporaryDirectory() as folder:
         peer = built(folder, "peer", way.peer, text_of(grammar, way, True))
         own = built(folder, "own", [ycc, *way.ycc], text_of(grammar, way, False))
@@ -255,9 +273,7 @@ def compare(way, grammar, lists, ycc):
                 # it reduces without an end
                 continue
             made = own_steps(told(own, given), way)
-            wanted, made = (
-                [it for it in both if it[0] not in way.leaves_out] for both in (wanted, made)
-            )
+            wanted, made = (compared(way, it, is_cut) for it in (wanted, made))
             if made != wanted and not is_by_design(way, wanted, made):
                 names = " ".join(grammar.names[it] for it in given)
                 both = f"{way.peer[0]}:\n{wanted}\nycc:\n{made}"

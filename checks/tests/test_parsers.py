@@ -6,7 +6,7 @@ from checks.parsers import classes, drivers, messages, parsers, policies, spoil
 from checks.parsers.pairs import Case, digest_in, said_in
 from checks.shared.places import EXAMPLES
 from checks.shared.table_file import table_of
-from checks.tests.fakes import Planted, changed, ended
+from checks.tests.fakes import Planted, changed, ended, grammar_in
 
 TABLE = (EXAMPLES / "one-rule/tables/left/y.tab").read_bytes()
 STEPS = "1 shift 'x'\n2 reduce 1\n3 accept\n"
@@ -155,6 +155,18 @@ class Policies(Planted):
         sole = policies.WAYS[-1]
         self.assertEqual(self.fault(trace, "l\n= 1\n", sole), [])
         self.assertTrue(self.fault(trace, "l\np\n= 1\n", sole))
+
+    def test_states_of_conflicts(self):
+        """Steps after an error are left out only where a conflict leaves a state one reduction, and
+        only under the policy that has such states."""
+        texts = b"%token A\n%%\ns : A | t ;\nt : A ;\n", b"%token A\n%%\ns : A ;\n"
+        both = [grammar_in(it) for it in texts]
+        self.assertEqual([policies.leaves_one(it) for it in both], [True, False])
+        consistent, most = policies.WAYS[3], policies.WAYS[0]
+        steps = ["l", "s", "e wrong", "x", "= 1"]
+        self.assertEqual(policies.compared(consistent, steps, True), ["s", "e wrong"])
+        self.assertEqual(policies.compared(consistent, steps, False), ["s", "e wrong", "x", "= 1"])
+        self.assertEqual(policies.compared(most, steps, False), steps)
 
 
 class Drivers(Planted):
