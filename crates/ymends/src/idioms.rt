@@ -73,7 +73,12 @@ struct Search<'a> {
 
 /// Whether all of these symbols can be empty.
 pub fn can_vanish(automaton: &Automaton, symbols: &[Sym]) -> bool {
-    symbols.iter().all(|symbol| vanishes(automaton, *symbol))
+    for symbol in symbols {
+        if !vanishes(automaton, *symbol) {
+            return false;
+        }
+    }
+    true
 }
 
 /// The nonterminals by whose rules a symbol is empty, that one first.
@@ -181,7 +186,10 @@ impl Idiom {
         for rule in rules {
             let left = left_of(grammar, *rule);
             let is_empty = can_vanish(automaton, body_of(grammar, *rule));
-            let is_by = left.is_some_and(|it| self.empty.contains(&it));
+            let is_by = match left {
+                Some(left) => self.empty.contains(&left),
+                None => false,
+            };
             let is_side = match self.form {
                 Form::Alike => left == self.other,
                 Form::Cycle | Form::Twice => false,
@@ -244,7 +252,12 @@ impl Search<'_> {
 
     /// Whether a rule is one of an idiom that was found.
     fn has_rule(&self, rule: usize) -> bool {
-        self.found.iter().any(|idiom| idiom.rules.contains(&rule))
+        for idiom in &self.found {
+            if idiom.rules.contains(&rule) {
+                return true;
+            }
+        }
+        false
     }
 
     /// Whether a symbol is on a cycle that was found.
@@ -266,7 +279,10 @@ impl Search<'_> {
         let (alloc, automaton) = (self.alloc, self.automaton);
         let grammar = automaton.grammar();
         for symbol in 0..grammar.symbols() {
-            let begins = self.alone.iter().any(|edge| edge.from == symbol);
+            let mut begins = false;
+            for edge in &self.alone {
+                begins = begins || edge.from == symbol;
+            }
             if !begins || self.is_cyclic(symbol) {
                 continue;
             }
@@ -333,7 +349,10 @@ impl Search<'_> {
             let (left, body) = (left_of(grammar, rule), body_of(grammar, rule));
             let (first, last) = (body.first().copied(), body.last().copied());
             let is_list = body.len() > 1 && first == left && last == left;
-            let has_token = body.iter().any(|symbol| grammar.is_token(*symbol));
+            let mut has_token = false;
+            for symbol in body {
+                has_token = has_token || grammar.is_token(*symbol);
+            }
             if let (Some(symbol), true, false) = (left, is_list, has_token) {
                 if !self.has_rule(rule) {
                     let rules = Vec::from_slice(self.alloc, &[rule])?;

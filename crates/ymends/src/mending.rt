@@ -100,7 +100,12 @@ impl Drop for Mender {
 
 /// Whether a grammar has precedences.
 fn has_levels(grammar: &Grammar) -> bool {
-    (ERROR..token_count(grammar)).any(|token| level_of(grammar, token).is_some())
+    for token in ERROR..token_count(grammar) {
+        if level_of(grammar, token).is_some() {
+            return true;
+        }
+    }
+    false
 }
 
 impl Mender {
@@ -160,8 +165,12 @@ impl Mender {
 
     /// The place of the first idiom from which a conflict comes.
     pub fn idiom_of(&self, tables: &Tables, kind: &Kind) -> Option<usize> {
-        let mut idioms = self.idioms.iter();
-        idioms.position(|idiom| idiom.concerns(tables.automaton(), kind.rules()))
+        for (place, idiom) in self.idioms.iter().enumerate() {
+            if idiom.concerns(tables.automaton(), kind.rules()) {
+                return Some(place);
+            }
+        }
+        None
     }
 
     /// The changes that mend the idiom at a place; none where there is none.
@@ -179,8 +188,12 @@ impl Mender {
             return Ok(None);
         };
         let (most, count) = self.bound();
-        let answer = is_same(self.alloc, grammar_of(tables), language, changed)?;
-        Ok(answer.map(|it| (most, count, it)))
+        Ok(
+            match is_same(self.alloc, grammar_of(tables), language, changed)? {
+                Some(it) => Some((most, count, it)),
+                None => None,
+            },
+        )
     }
 
     /// Whether other tables refuse one of the sentences that tables accept, or that isn't known:
@@ -264,9 +277,10 @@ impl Mender {
         let mut best: Option<Tried> = None;
         for candidate in list {
             if let Some(tried) = self.tried(tables, lines, *candidate)? {
-                if best.is_none_or(|it| tried.left < it.left) {
-                    best = Some(tried);
-                }
+                best = match best {
+                    Some(it) if it.left <= tried.left => Some(it),
+                    _ => Some(tried),
+                };
                 if tried.left == 0 {
                     break;
                 }
@@ -292,9 +306,10 @@ impl Mender {
                 None => continue,
             };
             if let Some(tried) = self.best(tables, lines, &list)? {
-                if best.is_none_or(|it| tried.left < it.left) {
-                    best = Some(tried);
-                }
+                best = match best {
+                    Some(it) if it.left <= tried.left => Some(it),
+                    _ => Some(tried),
+                };
             }
         }
         Ok(best)
@@ -310,7 +325,10 @@ impl Mender {
         let cell = (group.state, token);
         let taken = second_after(alloc, tables, &self.moves, cell, kind.taken())?;
         let other = second_after(alloc, tables, &self.moves, cell, Some(rule))?;
-        let is_shared = other.iter().any(|it| taken.contains(it));
+        let mut is_shared = false;
+        for token in &other {
+            is_shared = is_shared || taken.contains(token);
+        }
         if is_shared || taken.is_empty() || other.is_empty() {
             return Ok(None);
         }

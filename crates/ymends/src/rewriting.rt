@@ -186,11 +186,12 @@ impl Writer<'_> {
 
     /// Adds a rule once for each rule of the first of two nonterminals in its body.
     fn open(&mut self, rule: usize, (one, two): (Sym, Sym)) -> Made<()> {
-        let mut body = body_of(self.grammar, rule).iter();
-        match body.find(|it| **it == one || **it == two) {
-            Some(symbol) => self.inline(rule, *symbol),
-            None => self.keep(rule),
+        for symbol in body_of(self.grammar, rule) {
+            if *symbol == one || *symbol == two {
+                return self.inline(rule, *symbol);
+            }
         }
+        self.keep(rule)
     }
 
     /// Whether a nonterminal has an empty rule.

@@ -70,12 +70,14 @@ impl Document {
     pub fn action_at(&self, at: usize) -> Option<Span> {
         self.index.rule_at(at)?;
         // the end of the file is within an action that has no end
-        let (mut lexemes, at_end) = (self.index.lexemes.iter(), at == self.text.len());
-        let found = lexemes.find(|it| {
+        let at_end = at == self.text.len();
+        for it in &self.index.lexemes {
             let is_before = at < it.span.to || at_end && at == it.span.to;
-            it.kind == Kind::Braced && it.span.from < at && is_before
-        })?;
-        Some(found.span)
+            if it.kind == Kind::Braced && it.span.from < at && is_before {
+                return Some(it.span);
+            }
+        }
+        None
     }
 
     /// The reference at a place of an action.
@@ -95,12 +97,13 @@ impl Document {
 
     /// The number of the name of the left side or the symbol of a body that begins at a place.
     fn body_name(&self, from: usize) -> Option<usize> {
-        let mut mentions = self.index.mentions.iter();
-        let found = mentions.find(|it| it.span.from == from)?;
-        match found.named {
-            Use::Left | Use::Body => Some(found.name),
-            _ => None,
+        for it in &self.index.mentions {
+            if it.span.from == from {
+                let is_symbol = matches!(it.named, Use::Left | Use::Body);
+                return if is_symbol { Some(it.name) } else { None };
+            }
         }
+        None
     }
 
     /// Where the rules of the left side begin that stand around a place, and where its rule ends.
@@ -225,7 +228,10 @@ impl Document {
         };
         let text = self.value_text(alloc, part, own)?;
         let rule = self.index.rule_at(action.from).unwrap_or(0);
-        let from = self.index.rules.get(rule).map_or(0, |rule| rule.from);
+        let from = match self.index.rules.get(rule) {
+            Some(rule) => rule.from,
+            None => 0,
+        };
         let line = self.position(from).line.saturating_add(1);
         Ok(Some(format!(in alloc; "the {word} of {text}\nin the rule on line {line}\n")?))
     }

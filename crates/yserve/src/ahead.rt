@@ -12,22 +12,6 @@ const MOST_AHEAD: usize = 100;
 /// The path of the name of a file.
 const URI: &str = "/params/textDocument/uri";
 
-/// Whether a message that comes after a request takes it back.
-fn cancels(request: &Value, next: &Value) -> bool {
-    match (request.get("id"), next.pointer("/params/id")) {
-        (Some(id), Some(other)) => *id == *other,
-        _ => false,
-    }
-}
-
-/// Whether the same file is meant.
-fn is_same_file(request: &Value, next: &Value) -> bool {
-    match (text_at(request, URI), text_at(next, URI)) {
-        (Some(uri), Some(other)) => uri == other,
-        _ => false,
-    }
-}
-
 /// What makes an answer needless: that one of the whole messages among these bytes takes the request
 /// back, or, where the answer depends on the whole file, that one changes or closes that.
 pub fn needless(
@@ -45,12 +29,20 @@ pub fn needless(
             continue;
         };
         match text_at(&next, "/method") {
-            Some("$/cancelRequest") if cancels(request, &next) => {
-                return Ok(Some(Wrong::Cancelled));
+            Some("$/cancelRequest") => {
+                let is_meant = match (request.get("id"), next.pointer("/params/id")) {
+                    (Some(id), Some(other)) => *id == *other,
+                    _ => false,
+                };
+                if is_meant {
+                    return Ok(Some(Wrong::Cancelled));
+                }
             }
-            Some("textDocument/didChange" | "textDocument/didClose" | "textDocument/didOpen")
-                if is_of_file && is_same_file(request, &next) => {
-                return Ok(Some(Wrong::Changed));
+            Some("textDocument/didChange" | "textDocument/didClose" | "textDocument/didOpen") => {
+                let uri = text_at(request, URI);
+                if is_of_file && uri.is_some() && uri == text_at(&next, URI) {
+                    return Ok(Some(Wrong::Changed));
+                }
             }
             _ => {}
         }

@@ -70,15 +70,13 @@ impl Document {
         };
         let from = start.saturating_add(column.saturating_sub(1)).min(end);
         // an action without an end is shown where it begins
-        let (mut lexemes, all) = (self.index.lexemes.iter(), self.text.len());
-        let found = lexemes.find(|lexeme| {
-            let is_open = lexeme.kind == Kind::Braced && lexeme.span.to == all;
-            lexeme.span.from == from && !is_open
-        });
-        match found {
-            Some(lexeme) => (from, lexeme.span.to),
-            None => (from, from.saturating_add(1).min(end)),
+        for lexeme in &self.index.lexemes {
+            let is_open = lexeme.kind == Kind::Braced && lexeme.span.to == self.text.len();
+            if lexeme.span.from == from && !is_open {
+                return (from, lexeme.span.to);
+            }
         }
+        (from, from.saturating_add(1).min(end))
     }
 
     /// What stands at other places, for one thing that is said.

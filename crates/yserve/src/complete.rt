@@ -59,10 +59,12 @@ enum Wanted {
 
 /// The length of the part of a word that stands before a place.
 pub fn word_before(text: &[u8]) -> usize {
-    text.iter()
-        .rev()
-        .take_while(|byte| byte.is_ascii_alphanumeric() || matches!(**byte, b'_' | b'.' | b'-'))
-        .count()
+    let mut length: usize = 0;
+    for byte in text {
+        let is_part = byte.is_ascii_alphanumeric() || matches!(*byte, b'_' | b'.' | b'-');
+        length = if is_part { length.saturating_add(1) } else { 0 };
+    }
+    length
 }
 
 /// What is wanted after a text.
@@ -81,8 +83,12 @@ fn wanted_after(text: &[u8]) -> Wanted {
 impl Document {
     /// Whether a symbol is declared as a token, or gets a precedence.
     fn is_token(&self, name: usize) -> bool {
-        let mut mentions = self.index.mentions.iter();
-        mentions.any(|it| it.name == name && matches!(it.named, Use::Token | Use::Level))
+        for it in &self.index.mentions {
+            if it.name == name && matches!(it.named, Use::Token | Use::Level) {
+                return true;
+            }
+        }
+        false
     }
 
     /// What could be written at a place: references in actions, directives after a percent sign,

@@ -55,10 +55,12 @@ impl Document {
     /// What is wrong at a place, and what the symbol there is; or what a reference there is.
     pub fn hover(&self, alloc: Global, at: usize) -> io::Result<Value> {
         let (mut text, mut part) = (Vec::new(alloc), (at, at));
-        let mut faults = self.faults.iter();
-        if let Some(fault) = faults.find(|it| it.from <= at && at <= it.to) {
-            text.extend_from_slice(fault.text.as_bytes())?;
-            part = (fault.from, fault.to);
+        for fault in &self.faults {
+            if fault.from <= at && at <= fault.to {
+                text.extend_from_slice(fault.text.as_bytes())?;
+                part = (fault.from, fault.to);
+                break;
+            }
         }
         if let Some(mention) = self.index.at(at) {
             text = self.with_symbol(text, self.index.name(mention.name))?;

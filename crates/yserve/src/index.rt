@@ -138,7 +138,8 @@ impl Maker<'_> {
     /// Takes in a declaration. A string after a token that is declared stands for it.
     fn declare(&mut self, group: &Group<'_>, directive: Directive) -> Result<(), AllocError> {
         let (named, mut last, mut tag) = (Use::of(directive), None, None);
-        if directive == Directive::Define || named == Use::Other && !takes_symbols(directive) {
+        let takes_symbols = directive.takes(Kind::Name) && directive.takes(Kind::Literal);
+        if directive == Directive::Define || named == Use::Other && !takes_symbols {
             return Ok(());
         }
         for lexeme in group.lexemes.get(1..).unwrap_or(&[]) {
@@ -185,7 +186,10 @@ impl Maker<'_> {
         let left = if group.head == Head::Left {
             self.number(head.text(self.source))?
         } else {
-            self.made.rules.last().map_or(0, |rule| rule.left)
+            match self.made.rules.last() {
+                Some(rule) => rule.left,
+                None => 0,
+            }
         };
         self.made.rules.push(Rule {
             left,
@@ -210,11 +214,6 @@ impl Maker<'_> {
             Head::Code | Head::Mark | Head::Stray => Ok(()),
         }
     }
-}
-
-/// Whether a directive that isn't one of tokens, types or the start names symbols.
-fn takes_symbols(directive: Directive) -> bool {
-    directive.takes(Kind::Name) && directive.takes(Kind::Literal)
 }
 
 /// The lexemes of a file up to the first place at which none begins; an action without an end goes
@@ -269,7 +268,10 @@ pub fn index_of(alloc: Global, source: &[u8]) -> Result<Index, AllocError> {
 impl Index {
     /// The name of a number.
     pub fn name(&self, number: usize) -> &[u8] {
-        self.names.get(number).map_or(&[], |name| name.as_slice())
+        match self.names.get(number) {
+            Some(name) => name.as_slice(),
+            None => &[],
+        }
     }
 
     /// Whether a symbol has this name.
@@ -294,21 +296,26 @@ impl Index {
 
     /// Whether a symbol stands on the left side of a rule.
     pub fn is_left(&self, name: usize) -> bool {
-        self.rules.iter().any(|rule| rule.left == name)
+        for rule in &self.rules {
+            if rule.left == name {
+                return true;
+            }
+        }
+        false
     }
 
     /// The mention at which a symbol is defined: its first rule, or its declaration.
     pub fn definition(&self, name: usize) -> Option<Mention> {
-        let mut found: Option<Mention> = None;
+        let (mut found, mut first): (Option<Mention>, Option<Use>) = (None, None);
         for mention in &self.mentions {
-            if mention.name != name {
-                continue;
-            }
-            match (mention.named, found.map(|it| it.named)) {
-                (Use::Left, first) if first != Some(Use::Left) => found = Some(*mention),
-                (Use::Token, None | Some(Use::Level | Use::Type)) => found = Some(*mention),
-                (Use::Level | Use::Type, None) => found = Some(*mention),
-                _ => {}
+            let is_better = match (mention.named, first) {
+                (Use::Left, first) => first != Some(Use::Left),
+                (Use::Token, None | Some(Use::Level | Use::Type)) => true,
+                (Use::Level | Use::Type, None) => true,
+                _ => false,
+            };
+            if mention.name == name && is_better {
+                (found, first) = (Some(*mention), Some(mention.named));
             }
         }
         found
@@ -316,8 +323,11 @@ impl Index {
 
     /// The rule that a place stands in.
     pub fn rule_at(&self, offset: usize) -> Option<usize> {
-        self.rules
-            .iter()
-            .position(|rule| rule.from <= offset && offset <= rule.to)
+        for (number, rule) in self.rules.iter().enumerate() {
+            if rule.from <= offset && offset <= rule.to {
+                return Some(number);
+            }
+        }
+        None
     }
 }

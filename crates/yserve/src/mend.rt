@@ -49,20 +49,21 @@ pub fn mend_of(
 impl Document {
     /// Whether a symbol of a body is no nonterminal and no declared token.
     fn is_unknown(&self, mention: Mention) -> bool {
-        let is_name = self
-            .text
-            .get(mention.span.from)
-            .is_some_and(u8::is_ascii_alphabetic);
+        let Some(first) = self.text.get(mention.span.from) else {
+            return false;
+        };
+        let is_name = first.is_ascii_alphabetic();
         is_name && mention.named == Use::Body && self.index.definition(mention.name).is_none()
     }
 
     /// Where declarations can be added: before the first mark.
     pub fn mark(&self) -> usize {
-        let mut lexemes = self.index.lexemes.iter();
-        match lexemes.find(|lexeme| lexeme.kind == Kind::Mark) {
-            Some(mark) => mark.span.from,
-            None => 0,
+        for lexeme in &self.index.lexemes {
+            if lexeme.kind == Kind::Mark {
+                return lexeme.span.from;
+            }
         }
+        0
     }
 
     /// The mend for the symbol at a place: an unknown one is declared; a token that nothing uses is
@@ -79,8 +80,10 @@ impl Document {
             let text = format!(in alloc; "%token {name}\n")?;
             return Ok(Some(mend_of(alloc, (line, title), (mark, mark), text)?));
         }
-        let mut mentions = self.index.mentions.iter();
-        let is_used = mentions.any(|it| it.name == mention.name && it.named != Use::Token);
+        let mut is_used = false;
+        for it in &self.index.mentions {
+            is_used = is_used || it.name == mention.name && it.named != Use::Token;
+        }
         if mention.named == Use::Token && !is_used {
             let title = format!(in alloc; "remove the unused token {name}")?;
             let part = (mention.span.from, mention.span.to);
@@ -97,9 +100,14 @@ impl Document {
         cause: &CauseSheet,
         choices: &mut Vec<Mend>,
     ) -> Result<(), AllocError> {
-        let mut rivals = cause.rivals.iter();
-        let loser = rivals.find(|it| !it.taken);
-        let Some(line) = loser.and_then(|it| it.line) else {
+        let mut loser = None;
+        for rival in &cause.rivals {
+            if !rival.taken {
+                loser = rival.line;
+                break;
+            }
+        }
+        let Some(line) = loser else {
             return Ok(());
         };
         for hint in &cause.hints {

@@ -159,9 +159,11 @@ impl Document {
     fn rule_group(&self, at: usize) -> Option<(usize, Rule)> {
         let number = self.index.rule_at(at)?;
         let rule = self.index.rules.get(number).copied()?;
-        let before = self.index.rules.get(..number).unwrap_or(&[]);
-        let same = before.iter().rev().take_while(|it| it.left == rule.left);
-        let first = number.saturating_sub(same.count());
+        let mut first = number;
+        for (place, it) in self.index.rules.iter().enumerate().take(number) {
+            let is_same = it.left == rule.left;
+            first = if is_same { first.min(place) } else { number };
+        }
         Some((first, self.index.rules.get(first).copied()?))
     }
 

@@ -11,7 +11,14 @@ fn is_name(text: &[u8]) -> bool {
     match text {
         [first, ..] if first.is_ascii_digit() => false,
         [] => false,
-        _ => text.iter().all(|byte| byte.is_ascii_alphanumeric() || matches!(*byte, b'_' | b'.')),
+        _ => {
+            let mut is_name = true;
+            for byte in text {
+                let is_part = byte.is_ascii_alphanumeric() || matches!(*byte, b'_' | b'.');
+                is_name = is_name && is_part;
+            }
+            is_name
+        }
     }
 }
 

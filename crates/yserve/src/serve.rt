@@ -45,15 +45,6 @@ enum Depth {
     Whole,
 }
 
-/// What has to be known of files to answer a request.
-fn depth_for(method: &str) -> Depth {
-    match method {
-        "textDocument/hover" => Depth::Tables,
-        "textDocument/codeAction" => Depth::Whole,
-        _ => Depth::Nothing,
-    }
-}
-
 /// Looks at each file that was changed, and tells what is said of it: of all files where their
 /// conflicts stand, and then of each all, which takes longer.
 fn check_all<F: Files + AllocGlobal, W: Write>(
@@ -86,7 +77,13 @@ fn reply<F: Files + AllocGlobal, W: Write>(
     (method, id): (&str, &Value),
     (message, ahead): (&Value, &[u8]),
 ) -> io::Result<()> {
-    let (alloc, depth) = (rt.alloc(), depth_for(method));
+    let alloc = rt.alloc();
+    // what has to be known of files to answer
+    let depth = match method {
+        "textDocument/hover" => Depth::Tables,
+        "textDocument/codeAction" => Depth::Whole,
+        _ => Depth::Nothing,
+    };
     let is_of_file = depth == Depth::Whole;
     let reply = match needless(alloc, ahead, message, is_of_file)? {
         Some(wrong) => refusal(alloc, id, wrong)?,
@@ -129,33 +126,46 @@ fn obey<F: Files + AllocGlobal, W: Write>(
     Ok(Flow::GoesOn)
 }
 
+/// Takes the next message and answers it; the exit status, where no other is taken after it.
+fn serve_next<F: Files + AllocGlobal, R: Read + Drop, W: Write>(
+    rt: &F,
+    server: &mut Server,
+    reader: &mut BufReader<R>,
+    out: &mut W,
+) -> io::Result<Option<u8>> {
+    let alloc = rt.alloc();
+    // what has come in is taken in before files are looked at
+    if reader.buffer().is_empty() {
+        check_all(rt, server, out, Depth::Whole)?;
+    }
+    let message = match next_message(alloc, reader)? {
+        Came::End => return Ok(Some(1)),
+        Came::Broken => None,
+        Came::Message(bytes) => message_in(alloc, &bytes),
+    };
+    let Some(message) = &message else {
+        send(alloc, out, &refusal(alloc, &Value::Null, Wrong::NoJson)?)?;
+        return Ok(None);
+    };
+    let flow = obey(rt, server, out, (message, reader.buffer()))?;
+    let is_asked = server.stage == Stage::Ending;
+    Ok(match flow {
+        Flow::Ends => Some(u8::from(!is_asked)),
+        Flow::GoesOn => None,
+    })
+}
+
 /// Serves an editor, and gives the exit status: 0 after `shutdown` and `exit`, else 1.
 pub fn run_serve<F: Files + AllocGlobal, R: Read + Drop, W: Write>(
     rt: &F,
     input: R,
     out: &mut W,
 ) -> io::Result<u8> {
-    let (alloc, mut server) = (rt.alloc(), Server::new(rt.alloc()));
-    let mut reader = BufReader::new(alloc, input)?;
+    let mut server = Server::new(rt.alloc());
+    let mut reader = BufReader::new(rt.alloc(), input)?;
     for _ in 0..usize::MAX {
-        // what has come in is taken in before files are looked at
-        if reader.buffer().is_empty() {
-            check_all(rt, &mut server, out, Depth::Whole)?;
-        }
-        let message = match next_message(alloc, &mut reader)? {
-            Came::End => break,
-            Came::Broken => None,
-            Came::Message(bytes) => message_in(alloc, &bytes),
-        };
-        let flow = match &message {
-            Some(message) => obey(rt, &mut server, out, (message, reader.buffer()))?,
-            None => {
-                send(alloc, out, &refusal(alloc, &Value::Null, Wrong::NoJson)?)?;
-                Flow::GoesOn
-            }
-        };
-        if flow == Flow::Ends {
-            return Ok(u8::from(server.stage != Stage::Ending));
+        if let Some(status) = serve_next(rt, &mut server, &mut reader, out)? {
+            return Ok(status);
         }
     }
     Ok(1)

@@ -86,7 +86,12 @@ impl Server {
     /// The place of the file of a message among those that are open.
     fn place(&self, message: &Value) -> Option<usize> {
         let uri = text_at(message, "/params/textDocument/uri")?;
-        self.documents.iter().position(|it| it.uri.as_str() == uri)
+        for (place, document) in self.documents.iter().enumerate() {
+            if document.uri.as_str() == uri {
+                return Some(place);
+            }
+        }
+        None
     }
 
     /// Begins, with the first way of counting columns that the editor takes and this knows.
@@ -137,8 +142,8 @@ impl Server {
 
     /// Changes a file.
     fn change(&mut self, message: &Value) -> Result<(), AllocError> {
-        let (alloc, place) = (self.alloc, self.place(message));
-        if let Some(document) = place.and_then(|place| self.documents.get_mut(place)) {
+        let (alloc, place) = (self.alloc, self.place(message).unwrap_or(usize::MAX));
+        if let Some(document) = self.documents.get_mut(place) {
             document.version = number_at(message, "/params/textDocument/version");
             document.change_all(alloc, message)?;
         }
@@ -179,10 +184,8 @@ impl Server {
             _ => "/params/position",
         };
         let position = position_at(alloc, message, path)?;
-        let place = self
-            .place(message)
-            .and_then(|place| self.documents.get(place));
-        let Some(document) = place else {
+        let place = self.place(message).unwrap_or(usize::MAX);
+        let Some(document) = self.documents.get(place) else {
             return Ok(Err(Wrong::NoArgument));
         };
         match asks {

@@ -136,14 +136,6 @@ impl<'a> Scene<'a> {
             Piece::Place(whose) => self.place(whose).err(),
         }
     }
-
-    /// The place in its body of an action that doesn't end it.
-    fn inner_place(&self) -> Option<usize> {
-        match self.is_inner {
-            true => Some(self.before.len().saturating_add(1)),
-            false => None,
-        }
-    }
 }
 
 impl<'a> Skeleton<'a> {
@@ -156,6 +148,11 @@ impl<'a> Skeleton<'a> {
         found: &mut Vec<Misused<'a>>,
     ) -> Made<()> {
         let dialect = self.style.dialect();
+        // the place in its body of an action that doesn't end it
+        let inner = match scene.is_inner {
+            true => Some(scene.before.len().saturating_add(1)),
+            false => None,
+        };
         let mut rest = code.text;
         for _ in code.text {
             let Some((piece, front, after)) = piece_at(rest, dialect) else {
@@ -173,7 +170,7 @@ impl<'a> Skeleton<'a> {
                 name,
                 at: code.at.saturating_add(before),
                 names: scene.names,
-                inner: scene.inner_place(),
+                inner,
             };
             if let Some(misuse) = misuse {
                 one.misuse = misuse;

@@ -168,13 +168,6 @@ impl<'a> Style<'a> {
         self.is_bison() && self.options.raw
     }
 
-    /// Whether a program can ask which tokens could come.
-    fn has_kinds(&self) -> bool {
-        let errors = self.errors();
-        let is_asked = errors == Errors::Custom || (errors != Errors::Simple && self.is_pushed());
-        is_asked && !self.options.is_cxx()
-    }
-
     /// What is said of an error: in byacc's order that there is one.
     pub fn errors(&self) -> Errors {
         if self.is_bison() {
@@ -262,7 +255,12 @@ impl<'a> Style<'a> {
             "pull" => !self.is_pushed(),
             "pulls" => self.is_pulled(),
             "raw" => self.is_raw(),
-            "kinds" => self.has_kinds(),
+            // a program can ask which tokens could come
+            "kinds" => match self.errors() {
+                Errors::Custom => !self.options.is_cxx(),
+                Errors::Simple => false,
+                _ => self.is_pushed() && !self.options.is_cxx(),
+            },
             "locations" => self.locations,
             "destroys" => self.destroys,
             "prints" => self.prints,
