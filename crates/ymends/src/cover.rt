@@ -1,11 +1,11 @@
-//! Sentences that use the rules of a grammar which another one lacks, with each rule of a
-//! nonterminal at each place of their bodies: short sentences may be few, so a changed grammar is
-//! compared by these too.
+//! Sentences that use the rules of a grammar which another one lacks, at each place where they can
+//! stand, and with each rule of a nonterminal at each place of their bodies: short sentences may be
+//! few, so a changed grammar is compared by these too.
 
 use crate::language::{Beside, accepts, beside_of, renamed};
 use std::alloc::Global;
 use yambiguity::forks::derives;
-use yexplain::reads::{Made, body_of, grammar_of, left_of, name_of};
+use yexplain::reads::{Made, body_of, grammar_of, is_set, left_of, name_of, set};
 use ysearch::shortest::Shortest;
 use ysymbols::{Grammar, Sym, let_go};
 use ytables::Tables;
@@ -110,16 +110,21 @@ impl Cover<'_, '_> {
         }
     }
 
-    /// Whether it has those of a rule.
-    fn has_rule(&mut self, rule: usize) -> Made<bool> {
+    /// Whether it has those of a rule, and of a rule within it, where it lacks one of the two. The
+    /// rules that it lacks are marked.
+    fn has_rule(&mut self, rule: usize, lacking: &[bool]) -> Made<bool> {
         let (grammar, shortest) = (grammar_of(self.from), self.shortest);
         let (left, body) = (left_of(grammar, rule).unwrap_or(0), body_of(grammar, rule));
-        if !self.has(left, body)? {
+        let is_lacking = is_set(lacking, rule);
+        if is_lacking && !self.has(left, body)? {
             return Ok(false);
         }
         for dot in 0..body.len() {
             let symbol = body.get(dot).copied().unwrap_or(0);
             for inner in shortest.rules.of(symbol) {
+                if !is_lacking && !is_set(lacking, *inner) {
+                    continue;
+                }
                 let mut form = Vec::from_slice(self.alloc, body.get(..dot).unwrap_or(&[]))?;
                 form.extend_from_slice(body_of(grammar, *inner))?;
                 form.extend_from_slice(body.get(dot.saturating_add(1)..).unwrap_or(&[]))?;
@@ -134,8 +139,12 @@ impl Cover<'_, '_> {
     /// Whether it has those of all rules that it lacks.
     fn has_all(&mut self) -> Made<bool> {
         let (from, to) = (grammar_of(self.from), grammar_of(self.to));
+        let mut lacking = vec![in self.alloc; false; from.rules()]?;
         for rule in 1..from.rules() {
-            if is_new(from, rule, to) && !self.has_rule(rule)? {
+            set(&mut lacking, rule, is_new(from, rule, to));
+        }
+        for rule in 1..from.rules() {
+            if !self.has_rule(rule, &lacking)? {
                 return Ok(false);
             }
         }
