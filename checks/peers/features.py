@@ -15,7 +15,8 @@ same places, but for what bison says of changes that it would make to a file. Of
 doesn't expect bison says no place; of byacc's the line on conflicts counts.
 
 Each file of checks/data/features/graphs begins with a comment `PEER draws: WORDS`: with these words the
-graphs of the peer and of ycc have to be the same, byte for byte, but for the numbers of states in byacc's.
+graphs of the peer and of ycc have to be the same, byte for byte, but for the numbers of states in
+byacc's.
 
 Each file of checks/data/features/refused has to be refused with status 1, a message that names the
 file and the line below its comment `refused below: WORDS`, and has these words; no file may be
