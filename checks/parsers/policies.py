@@ -3,12 +3,14 @@
     policies [--seed N] [--drawn N] [ycc=PATH]
 
 Over N grammars drawn at random (40) and lists of tokens for each, right and wrong ones, parsers
-under `most` write the traces of bison's, byte for byte, with the same numbers of states and rules.
+under `most` write the traces of bison's, byte for byte, with the same numbers of states and rules, and
+come with the same reports, but for counterexamples.
 Under `consistent` with `parse.lac full` they make the steps of bison's, with the same texts of
 errors, and under `sole` those of byacc's: when a token is read, what is shifted and reduced, what
 is popped and discarded after an error, and how a parse ends. The traces of the peers tell their
 steps. `parsers` compares `consistent` with `ystep`. The last line is `N passed, M failed`.
 """
+import difflib
 import os
 import random
 import re
@@ -107,6 +109,8 @@ BYACC = {
     r"(e .*|l|= \d)": r"\1",
 }
 SAYS = "%define parse.error verbose\n"
+# What asks for a report on all but counterexamples, beside the parser.
+REPORT = ["--report=itemsets,lookaheads,solved"]
 PUSHED = ["-Dparse.lac=full", "-Dapi.push-pull=both"]
 WAYS = [
     Way("most", ["--bison"], ["bison"], WHOLE),
@@ -257,16 +261,27 @@ def compared(way, steps, is_cut):
     return kept[: ends[0] + 1] if ends else kept
 
 
+def compare_reports(way, grammar, folder):
+    """The reports beside both parsers of a grammar."""
+    wanted, made = (Path(f"{folder}/{it}.output").read_text().split("\n") for it in ("peer", "own"))
+    if wanted != made:
+        lines = "\n".join(difflib.unified_diff(wanted, made, "bison", "ycc", lineterm="", n=2))
+        raise Differs(f"{way.name}\n{grammar.text}\n{lines}")
+
+
 def compare(way, grammar, lists, ycc):
     """Both parsers of a grammar on lists of tokens."""
     is_cut = bool(way.leaves_out) and leaves_one(grammar)
+    report = REPORT if way.steps is WHOLE else []
     with tempfile.TemporaryDirectory() as folder:
-        peer = built(folder, "peer", way.peer, text_of(grammar, way, True))
-        own = built(folder, "own", [ycc, *way.ycc], text_of(grammar, way, False))
+        peer = built(folder, "peer", [*way.peer, *report], text_of(grammar, way, True))
+        own = built(folder, "own", [ycc, *way.ycc, *report], text_of(grammar, way, False))
         if peer is None or own is None:
             if peer or own:
                 raise Differs(f"{way.name}: one refuses\n{grammar.text}")
             return
+        if report:
+            compare_reports(way, grammar, folder)
         for given in lists:
             wanted = steps_of(told(peer, given), way.steps)
             if not wanted or wanted[-1][0] != "=" or "e memory exhausted" in wanted:

@@ -16,7 +16,8 @@ doesn't expect bison says no place; of byacc's the line on conflicts counts.
 
 Each file of checks/data/features/graphs begins with a comment `PEER draws: WORDS`: with these words the
 graphs of the peer and of ycc have to be the same, byte for byte, but for the numbers of states in
-byacc's.
+byacc's. So have bison's reports, short ones and those on all but counterexamples, in ASCII and in
+UTF-8; the page that ycc writes has the text of its report.
 
 Each file of checks/data/features/refused has to be refused with status 1, a message that names the
 file and the line below its comment `refused below: WORDS`, and has these words; no file may be
@@ -39,6 +40,7 @@ newline may stand as in C:
     input 1 + 2\\n                     standard input of one run; a newline follows
 """
 import difflib
+import html
 import itertools
 import os
 import re
@@ -75,6 +77,10 @@ COUNTED = re.compile(r"^\w+: (\d+ \w+/reduce conflict.*)$", re.M)
 FIXES = "fix-its can be applied"
 PLAIN = {"LC_ALL": "C"}
 REPORT = ["parser.output"]
+# The reports that are compared, and where: in ASCII and in UTF-8.
+REPORTS = ["-v"], ["-r", "states"], ["--report=lookaheads"], ["-r", "itemsets,solved,lookaheads"]
+LOCALES = "C", "C.UTF-8"
+TAG = re.compile(r"<[^>]*>")
 ASKED_TOO = "the peer refuses it too"
 WARNING = re.compile(r"^([^\s:]+):\d+:\d+: warning: ", re.M)
 # How long a program may take, on a busy machine too.
@@ -361,6 +367,37 @@ def compare_graph(file, ycc, _kept):
         raise Differs("\n".join(both))
 
 
+def reports_by(maker, words, file, has_page):
+    """The lines of the reports that a program writes; with pages their text has to be the same."""
+    for how, locale in itertools.product(REPORTS, LOCALES):
+        pages = ["--html=parser.html"] if has_page else []
+        with tempfile.TemporaryDirectory() as room:
+            shutil.copy(file, room)
+            asked_for = [*maker, *words, *how, *pages, "-o", "parser.c", file.name]
+            made = run(asked_for, room, env={"LC_ALL": locale})
+            if made.returncode:
+                raise Differs(f"{maker}: status {made.returncode}\n{text_of(made.stderr)}")
+            text = Path(f"{room}/parser.output").read_text()
+            page = Path(f"{room}/parser.html").read_text() if has_page else ""
+        yield from [f"{' '.join(how)} {locale}", *text.split("\n")]
+        shown = html.unescape(TAG.sub("", page.partition("<pre>\n")[2].partition("</pre>")[0]))
+        if has_page and shown != text:
+            raise Differs(f"the page isn't the report\n{page}")
+
+
+def compare_report(file, ycc, _kept):
+    """Compares the reports on a file."""
+    peer, words = DRAWS.search(file.read_text()).groups()
+    if peer != "bison":
+        return
+    own = [ycc, "--bison"] if ycc else [peer]
+    wanted = list(reports_by([peer], words.split(), file, False))
+    made = list(reports_by(own, words.split(), file, bool(ycc)))
+    if wanted != made:
+        both = difflib.unified_diff(wanted, made, "wanted", "made", lineterm="", n=0)
+        raise Differs("\n".join(both))
+
+
 def place_of_refusal(text):
     """The line below the comment, and the words that are wanted."""
     found = REFUSED.search(text)
@@ -422,7 +459,7 @@ def jobs_of(ycc, given):
     told_of = sorted((FEATURES / "told").iterdir())
     jobs += [(compare_told, it, ycc, given.keep) for it in told_of]
     graphs = sorted((FEATURES / "graphs").iterdir())
-    jobs += [(compare_graph, it, ycc, given.keep) for it in graphs]
+    jobs += [(it, file, ycc, given.keep) for it in (compare_graph, compare_report) for file in graphs]
     return [it for it in jobs if given.only in it[1].name]
 
 

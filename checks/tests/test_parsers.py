@@ -1,5 +1,6 @@
 """Parsers and drivers that make other steps, and tables that are wrong."""
 import random
+from pathlib import Path
 from unittest import mock
 
 from checks.parsers import classes, drivers, messages, parsers, policies, spoil
@@ -125,12 +126,20 @@ Shifting token "end of file" ()
 class Policies(Planted):
     """Parsers of `ycc` beside those of a peer."""
 
-    def fault(self, trace, made, way):
-        """What is wrong with a parser that writes this, where its peer writes a trace."""
+    def fault(self, trace, made, way, report="State 0\n"):
+        """What is wrong with a parser that writes this, where its peer writes a trace; and with its
+        report."""
         texts = [f"sys.stdin.read(); sys.stderr.write({it!r})\n" for it in (trace, made)]
-        both = [self.program(f"parser{at}", text) for at, text in enumerate(texts)]
+        both = iter([self.program(f"parser{at}", text) for at, text in enumerate(texts)])
         grammar = mock.Mock(text="%%", names=["$end", "error"], tokens=2)
-        with mock.patch.object(policies, "built", side_effect=both):
+
+        def build(folder, name, _words, _text):
+            """A parser, with a report beside it."""
+            text = "State 0\n" if name == "peer" else report
+            Path(f"{folder}/{name}.output").write_text(text)
+            return next(both)
+
+        with mock.patch.object(policies, "built", side_effect=build):
             return policies.wrong((way, grammar, [[]], "ycc"))
 
     def test_steps_of_bison(self):
@@ -148,6 +157,12 @@ class Policies(Planted):
         for old, new in [("rule 2", "rule 3"), ("line 16", "line 17"), ("l\n", "l\nl\n")]:
             self.assertTrue(self.fault(BISON, BISON.replace(old, new), most))
         self.assertTrue(self.fault(BISON, BISON.replace("Shifting token NUM ()\n", ""), most))
+
+    def test_reports_of_bison(self):
+        """Another state, a line too many; a report beside byacc's parser isn't looked at."""
+        for report in ("State 1\n", "State 0\n\n"):
+            self.assertTrue(self.fault(BISON, BISON, policies.WAYS[0], report))
+        self.assertEqual(self.fault("l\n= 1\n", "l\n= 1\n", policies.WAYS[-1], "State 1\n"), [])
 
     def test_steps_of_byacc(self):
         """The lowest state, which byacc's trace tells of, is not popped."""

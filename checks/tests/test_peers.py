@@ -1,4 +1,5 @@
 """Comparisons with bison, byacc and packages that use them: answers that differ."""
+import html
 import os
 import random
 from collections import Counter
@@ -262,6 +263,30 @@ class Features(Planted):
 
             with mock.patch.object(features, "run", side_effect=draw):
                 found = self.look(features.compare_graph, file, "ycc", None)
+                self.assertEqual(bool(found), wrong)
+
+    def test_reports(self):
+        """A state with another number, a line too few, a page without a line, a status."""
+        file = self.room / "some.y"
+        file.write_text("/* bison draws: -Wnone */\n%%\ns : 'a' '<' ;\n")
+        report = "State 0\n\n    0 $accept: . s $end\n\n    '<'  shift, and go to state 1\n"
+        page = html.escape(report, quote=False).replace("State 0", '<a id="state_0">State 0</a>')
+        page = f"<html>\n<pre>\n{page}</pre>\n</html>\n"
+        short = report.replace("State 0\n", "")
+        for text, shown, status, wrong in (
+            (report, page, 0, False), (report.replace("0", "1"), page, 0, True),
+            (short, page.replace('<a id="state_0">State 0</a>\n', ""), 0, True),
+            (report, page.replace("shift", "reduce"), 0, True), (report, page, 1, True),
+        ):
+            def write(words, room, text=text, shown=shown, status=status, **_how):
+                """A run that writes a report."""
+                is_ours = words[0] == "ycc"
+                Path(f"{room}/parser.output").write_text(text if is_ours else report)
+                Path(f"{room}/parser.html").write_text(shown)
+                return ended(b"", b"", status if is_ours else 0)
+
+            with mock.patch.object(features, "run", side_effect=write):
+                found = self.look(features.compare_report, file, "ycc", None)
                 self.assertEqual(bool(found), wrong)
 
     def test_warnings(self):

@@ -3,8 +3,8 @@
 use crate::called::called_by;
 use crate::ending::{Ending, File};
 use std::env;
-use yexamples::examples::{Heading, put_examples};
-use yexamples::manner::{ASCII, Manner, UTF_8};
+use ylayouts::examples::{Heading, put_examples};
+use ylayouts::manner::{ASCII, Manner, Signs, UTF_8};
 use yfiles::diagnostic::Diagnostics;
 use yfiles::steady::Steady;
 use yfindings::kinds::Telling;
@@ -19,17 +19,17 @@ fn names_utf_8(place: &[u8]) -> bool {
         || four.any(|part| matches!(part, b"UTF8" | b"utf8"))
 }
 
-/// Whether texts are in UTF-8 where the program runs: the first of these variables that is set to
-/// something says it.
-fn is_utf_8(rt: &HostRuntime) -> bool {
+/// The signs of texts where the program runs: in UTF-8 where the first of these variables that is
+/// set to something says so.
+pub fn signs_of(rt: &HostRuntime) -> Signs {
     for name in ["LC_ALL", "LC_CTYPE", "LANG"] {
         if let Ok(value) = env::var(rt, name) {
             if !value.is_empty() {
-                return names_utf_8(value.as_bytes());
+                return if names_utf_8(value.as_bytes()) { UTF_8 } else { ASCII };
             }
         }
     }
-    false
+    ASCII
 }
 
 /// Tells an example for each conflict of a file, which was read without a fault.
@@ -65,7 +65,7 @@ pub fn tell_examples(
     let names = called_by(alloc, skeleton, true)?;
     let manner = Manner {
         names: &names,
-        signs: if is_utf_8(rt) { UTF_8 } else { ASCII },
+        signs: signs_of(rt),
     };
     let mut errors = Steady::new(rt.stderr(), true);
     put_examples(alloc, &mut errors, (heading, manner), opened)?;

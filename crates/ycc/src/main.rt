@@ -5,10 +5,9 @@
 //! `persona` says who is called, `policy` which states reduce by default, and `help` lists options;
 //! `names` has the names of the files that are written; `reading` reads the grammar file, `against`
 //! looks at variables that words and file set, `messages` reads those for errors, `making` makes
-//! the texts and writes them, `called` has what symbols are called in the file, `graph` draws the
-//! automaton, `saying` has the words for what is found and `faults` those for misused values and
-//! refusals, `warnings` tells what is to be told of it, `examples` those of conflicts, and `ending`
-//! says how a run ends.
+//! the texts and writes them, `called` has what symbols are called in the file, `saying` has the
+//! words for what is found and `faults` those for misused values and refusals, `warnings` tells what
+//! is to be told of it, `examples` those of conflicts, and `ending` says how a run ends.
 #![tactic(auto)]
 
 mod against;
@@ -18,7 +17,6 @@ mod ending;
 mod examples;
 mod faults;
 mod found;
-mod graph;
 mod help;
 mod making;
 mod messages;

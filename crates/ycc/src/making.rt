@@ -3,24 +3,32 @@
 use crate::called::called_by;
 use crate::classes::add_class;
 use crate::ending::{Ending, File, outside, say, tell};
-use crate::graph::Graph;
+use crate::examples::signs_of;
 use crate::messages::speech_of;
 use crate::names::{Names, Text, names_of};
 use crate::policy::policy_of;
 use crate::reading::Reading;
-use crate::warnings::tell_found;
+use crate::warnings::{import_of, is_sought, tell_found};
 use crate::words::Given;
 use std::alloc::Global;
 use ycode::code_of;
 use yfiles::output::Output;
 use yfiles::same::clash_of;
 use yfiles::writing::write_over;
+use yfindings::bodies::bodies_of;
+use yfindings::finding::Seen;
+use yfindings::levels::givers_of;
 use yfindings::walk::Walk;
+use yforeign::groups::groups_of;
+use ylayouts::layout::Layout;
+use ylayouts::manner::Manner;
+use ylayouts::report::{Report, Things};
+use ylayouts::spare::{Spares, spares_of};
 use yparts::options::{Header, Options};
 use yskeleton::{Mode, Numbering, Skeleton, Wishes, default_rules, style_of};
 use ytables::{Link, Tables};
 
-/// The report on states, or else the table that `yacc` writes.
+/// The report or the table that `yacc` writes.
 fn text_of(alloc: Global, tables: &Tables, is_report: bool) -> Result<Vec<u8>, Ending> {
     let mut link = Link::new(Vec::new(alloc));
     let written = if is_report {
@@ -89,11 +97,6 @@ fn texts_of<'a>(
     } else {
         add_plain(alloc, skeleton, has_header, names, &defaults, &mut texts)?;
     }
-    if given.verbose || options.verbose {
-        let path = names.report.as_str();
-        let bytes = text_of(alloc, tables, true)?;
-        texts.push(Text { path, bytes })?;
-    }
     if given.table.is_some() {
         let path = names.table.as_str();
         let bytes = text_of(alloc, tables, false)?;
@@ -105,34 +108,97 @@ fn texts_of<'a>(
 /// Adds the graphs that are wanted of a grammar file to texts.
 fn add_graphs<'a>(
     given: &Given<'_>,
-    tables: &Tables,
+    layout: &Layout<'_>,
     skeleton: &Skeleton<'_>,
     names: &'a Names,
     texts: &mut Vec<Text<'a>>,
-    alloc: Global,
 ) -> Result<(), Ending> {
-    for is_bison in [true, false] {
-        let is_wanted = match is_bison {
-            true => given.graph.is_some(),
-            false => given.old_graph,
-        };
-        if !is_wanted {
-            continue;
-        }
-        let called = called_by(alloc, skeleton, is_bison)?;
-        let graph = Graph {
-            alloc,
-            tables,
-            names: &called,
-            code: skeleton.code,
-            states: skeleton.states,
-            order: &skeleton.numbering.order,
-        };
-        let (path, bytes) = match is_bison {
-            true => (names.graph.as_str(), graph.text(skeleton.path)?),
-            false => (names.old_graph.as_str(), graph.old_text(&names.stem)?),
-        };
+    if given.graph.is_some() {
+        let (path, bytes) = (names.graph.as_str(), layout.graph(skeleton.path)?);
         texts.push(Text { path, bytes })?;
+    }
+    if given.old_graph {
+        let called = called_by(layout.alloc, skeleton, false)?;
+        let manner = Manner {
+            names: &called,
+            signs: layout.manner.signs,
+        };
+        let layout = Layout { manner, ..*layout };
+        let (path, bytes) = (names.old_graph.as_str(), layout.old_graph(&names.stem)?);
+        texts.push(Text { path, bytes })?;
+    }
+    Ok(())
+}
+
+/// Adds reports as bison writes them: a text, a page.
+fn add_reports<'a>(
+    (has_text, has_page): (bool, bool),
+    things: Things,
+    layout: &Layout<'_>,
+    (skeleton, seen): (&Skeleton<'_>, Option<&Seen<'_>>),
+    names: &'a Names,
+    texts: &mut Vec<Text<'a>>,
+) -> Result<(), Ending> {
+    let alloc = layout.alloc;
+    let (mut givers, mut spares) = (Vec::new(alloc), Spares::none(alloc));
+    if let Some(seen) = seen {
+        givers = givers_of(seen, &bodies_of(seen)?)?;
+        spares = spares_of(seen, layout.numbering, &givers)?;
+    }
+    let report = Report {
+        layout,
+        parts: skeleton.parts,
+        spares: &spares,
+        givers: &givers,
+        seen,
+        things,
+    };
+    for (is_wanted, path, is_page) in [
+        (has_text, names.report.as_str(), false),
+        (has_page, names.page.as_str(), true),
+    ] {
+        if is_wanted {
+            let bytes = report.text(skeleton.path, is_page)?;
+            texts.push(Text { path, bytes })?;
+        }
+    }
+    Ok(())
+}
+
+/// Adds what is shown of the automaton to texts. Where the order isn't that of bison, the report is
+/// that of `yacc`.
+fn add_shown<'a>(
+    rt: &HostRuntime,
+    given: &Given<'_>,
+    tables: &Tables,
+    by: (&Skeleton<'_>, Option<&Seen<'_>>),
+    names: &'a Names,
+    texts: &mut Vec<Text<'a>>,
+) -> Result<(), Ending> {
+    let (skeleton, alloc) = (by.0, rt.alloc());
+    let mut has_report = given.verbose || skeleton.parts.options.verbose;
+    if has_report && !skeleton.style.is_bison() {
+        let (path, bytes) = (names.report.as_str(), text_of(alloc, tables, true)?);
+        texts.push(Text { path, bytes })?;
+        has_report = false;
+    }
+    let called = called_by(alloc, skeleton, true)?;
+    let layout = Layout {
+        alloc,
+        tables,
+        manner: Manner {
+            names: &called,
+            signs: signs_of(rt),
+        },
+        code: skeleton.code,
+        states: skeleton.states,
+        numbering: skeleton.numbering,
+    };
+    add_graphs(given, &layout, skeleton, names, texts)?;
+    let has_page = given.page.is_some();
+    if has_report || has_page {
+        let wanted = (has_report, has_page);
+        add_reports(wanted, given.things, &layout, by, names, texts)?;
     }
     Ok(())
 }
@@ -184,16 +250,16 @@ fn begin(
     Ok(())
 }
 
-/// Makes all texts, and then writes their files.
-pub fn write_files<'x>(
+/// Makes all texts of a file that may be looked at, and then writes their files.
+fn make(
     rt: &HostRuntime,
     given: &Given<'_>,
-    file: &'x File,
-    read: &'x Reading<'_>,
+    file: &File,
+    (read, seen): (&Reading<'_>, Option<&Seen<'_>>),
+    wishes: Wishes,
 ) -> Result<(), Ending> {
     let (alloc, path) = (rt.alloc(), file.path.as_str());
     let (tables, parts) = (&read.tables, &read.parts);
-    let wishes = wishes_of(given, &parts.options);
     let is_bison = wishes.mode == Mode::Bison;
     begin(rt, given, file, (parts.options.is_cxx(), is_bison))?;
     let names = names_of(alloc, given, &parts.options, is_bison)?;
@@ -214,9 +280,9 @@ pub fn write_files<'x>(
         states: &states,
         speech: speech.as_ref(),
     };
-    let is_told = tell_found(rt, (given.kinds, is_bison), file, read, &skeleton)?;
+    let is_told = tell_found(rt, (given.kinds, is_bison), file, read, &skeleton, seen)?;
     let mut texts = texts_of(alloc, given, tables, skeleton, &names)?;
-    add_graphs(given, tables, &skeleton, &names, &mut texts, alloc)?;
+    add_shown(rt, given, tables, (&skeleton, seen), &names, &mut texts)?;
     if !given.dry {
         write_all(rt, given, &texts)?;
     }
@@ -224,4 +290,32 @@ pub fn write_files<'x>(
         true => Ok(()),
         false => Err(Ending::Untold),
     }
+}
+
+/// Makes all texts, and then writes their files.
+pub fn write_files(
+    rt: &HostRuntime,
+    given: &Given<'_>,
+    file: &File,
+    read: &Reading<'_>,
+) -> Result<(), Ending> {
+    let (alloc, wishes) = (rt.alloc(), wishes_of(given, &read.parts.options));
+    let is_looked_at = is_sought((given.kinds, wishes.mode == Mode::Bison));
+    let own = match &read.imported {
+        None if is_looked_at => import_of(rt, file)?,
+        _ => None,
+    };
+    let (Some(imported), true) = (read.imported.as_ref().or(own.as_ref()), is_looked_at) else {
+        return make(rt, given, file, (read, None), wishes);
+    };
+    let groups = groups_of(alloc, &file.bytes, &imported.lexemes)?;
+    let seen = Seen {
+        alloc,
+        source: &file.bytes,
+        imported,
+        groups: &groups,
+        tables: &read.tables,
+        parts: &read.parts,
+    };
+    make(rt, given, file, (read, Some(&seen)), wishes)
 }

@@ -28,6 +28,8 @@ pub struct Names {
     pub table: String,
     /// The graph as of bison.
     pub graph: String,
+    /// The report as a page.
+    pub page: String,
     /// The graph as of byacc, and what its name begins with.
     pub old_graph: String,
     pub stem: String,
@@ -45,7 +47,7 @@ impl Drop for Names {
     // A call in each owner, which keeps their proofs short.
     fn drop(self) {
         let_go!(self: Names {
-            parser, header, report, table, graph, old_graph, stem, header_name, places,
+            parser, header, report, table, graph, page, old_graph, stem, header_name, places,
             places_name, position, stack
         });
     }
@@ -92,6 +94,7 @@ fn names_beside(alloc: Global, front: &str) -> Made<Names> {
         report: String::new(alloc),
         table: String::new(alloc),
         graph: String::new(alloc),
+        page: String::new(alloc),
         old_graph: String::new(alloc),
         stem: String::new(alloc),
         header_name: String::new(alloc),
@@ -103,6 +106,7 @@ fn names_beside(alloc: Global, front: &str) -> Made<Names> {
     names.report = joined(alloc, front, ".output")?;
     names.table = joined(alloc, front, TAB)?;
     names.graph = joined(alloc, front, ".gv")?;
+    names.page = joined(alloc, front, ".html")?;
     names.old_graph = joined(alloc, front, ".dot")?;
     names.stem = String::from_str(alloc, front)?;
     Ok(names)
@@ -222,15 +226,16 @@ pub fn names_of(
         names.header = String::from_str(alloc, path)?;
     }
     let (report, table) = (given.report.unwrap_or(""), given.table.unwrap_or(""));
-    let graph = given.graph.unwrap_or("");
-    if !graph.is_empty() {
-        names.graph = String::from_str(alloc, graph)?;
-    }
-    if !report.is_empty() {
-        names.report = String::from_str(alloc, report)?;
-    }
-    if !table.is_empty() {
-        names.table = String::from_str(alloc, table)?;
+    let (graph, page) = (given.graph.unwrap_or(""), given.page.unwrap_or(""));
+    for (path, name) in [
+        (graph, &mut names.graph),
+        (page, &mut names.page),
+        (report, &mut names.report),
+        (table, &mut names.table),
+    ] {
+        if !path.is_empty() {
+            *name = String::from_str(alloc, path)?;
+        }
     }
     if options.is_cxx() {
         let has_header = given.define || options.header != Header::No;

@@ -33,7 +33,9 @@ pub enum Ask {
     NoLines,
     Trace,
     Report,
+    Things,
     ReportFile,
+    Page,
     Yacc,
     Pure,
     Locations,
@@ -192,7 +194,7 @@ const FIRST: [Known; PART] = [
         "report",
         Whose::All,
         THINGS_PERHAPS,
-        Ask::Report,
+        Ask::Things,
         "Writes the report on states too",
     ),
 ];
@@ -203,7 +205,7 @@ const SECOND: [Known; PART] = [
         "",
         Whose::Bison,
         THINGS,
-        Ask::Report,
+        Ask::Things,
         "Writes the report on states too",
     ),
     (
@@ -213,6 +215,14 @@ const SECOND: [Known; PART] = [
         FILE,
         Ask::ReportFile,
         "The file of the report",
+    ),
+    (
+        None,
+        "html",
+        Whose::All,
+        FILE_PERHAPS,
+        Ask::Page,
+        "Writes the report as a page for a browser too, to this file",
     ),
     (
         None,
@@ -286,6 +296,9 @@ const SECOND: [Known; PART] = [
         Ask::Trace,
         "The parser can trace its steps",
     ),
+];
+
+const THIRD: [Known; PART] = [
     (
         Some('P'),
         "",
@@ -294,9 +307,6 @@ const SECOND: [Known; PART] = [
         Ask::Pure,
         "The parser has no variables that its calls share",
     ),
-];
-
-const THIRD: [Known; PART] = [
     (
         None,
         "locations",
@@ -385,6 +395,9 @@ const THIRD: [Known; PART] = [
         Ask::Lists,
         "Errors list the tokens that bison would list",
     ),
+];
+
+const LAST: [Known; COUNT % PART] = [
     (
         Some('W'),
         "warnings",
@@ -393,9 +406,6 @@ const THIRD: [Known; PART] = [
         Ask::Kinds,
         "Which warnings are told, and which are errors",
     ),
-];
-
-const LAST: [Known; COUNT % PART] = [
     (
         Some('f'),
         "feature",
@@ -429,7 +439,6 @@ const LAST: [Known; COUNT % PART] = [
         "Changes nothing: strings get no names in C",
     ),
     (Some('x'), "xml", Whose::All, FILE_PERHAPS, NO_OUTPUT, ""),
-    (None, "html", Whose::All, FILE_PERHAPS, NO_OUTPUT, ""),
     (
         Some('M'),
         "file-prefix-map",

@@ -83,7 +83,7 @@ fn wish<'a>(given: &mut Given<'a>, ask: Ask, value: &'a str) -> bool {
         }
         Ask::NoLines => given.no_lines = true,
         Ask::Trace => given.trace = true,
-        Ask::Report => given.verbose = value != "none",
+        Ask::Report => given.verbose = true,
         Ask::ReportFile => given.report = Some(value),
         Ask::Yacc => given.yacc = true,
         Ask::Pure => given.pure = true,
@@ -98,6 +98,7 @@ fn wish<'a>(given: &mut Given<'a>, ask: Ask, value: &'a str) -> bool {
         Ask::Spec => given.spec = Some(value),
         Ask::Table => given.table = Some(value),
         Ask::Graph => given.graph = Some(value),
+        Ask::Page => given.page = Some(value),
         Ask::OldGraph => given.old_graph = true,
         _ => return false,
     }
@@ -151,6 +152,10 @@ impl<'a> Reader<'a> {
             Ask::Language | Ask::Skeleton => match self.speak(ask, value.as_bytes()) {
                 None => return Ok(()),
                 Some(refusal) => refusal.text(),
+            },
+            Ask::Things => match self.wanted.given.take_things(value) {
+                true => return Ok(()),
+                false => "a report has none, states, itemsets, lookaheads, solved, all",
             },
             Ask::Refused(why) => why,
             Ask::Help | Ask::Version | Ask::DataFolder | Ask::LocaleFolder => {

@@ -3,6 +3,7 @@
 use std::alloc::Global;
 use yexplain::reads::Made;
 use yfindings::kinds::Kinds;
+use ylayouts::report::Things;
 use yparts::options::Language;
 
 /// What is written to standard error where the words are refused.
@@ -45,6 +46,10 @@ pub struct Given<'a> {
     pub trace: bool,
     /// Whether the report is wanted.
     pub verbose: bool,
+    /// What it says of states beside their kernels and actions.
+    pub things: Things,
+    /// The file of the report as a page, where it is wanted; its name may be empty.
+    pub page: Option<&'a str>,
     /// Whether the names of files are those of `yacc`.
     pub yacc: bool,
     /// Whether the order and the names of bison are wanted.
@@ -73,7 +78,51 @@ pub struct Given<'a> {
     pub kinds: Kinds,
 }
 
+/// What a report may be asked for, by its names.
+const THINGS: [&str; 8] = [
+    "none", "states", "itemsets", "lookaheads", "solved", "counterexamples", "cex", "all",
+];
+
+/// The place of a thing by its name, or by the beginning of no other one.
+fn thing_named(word: &str) -> Option<usize> {
+    let mut found = None;
+    for (place, name) in THINGS.iter().enumerate() {
+        if *name == word {
+            return Some(place);
+        }
+        if name.starts_with(word) {
+            if found.is_some() {
+                return None;
+            }
+            found = Some(place);
+        }
+    }
+    found
+}
+
 impl Given<'_> {
+    /// Takes in what a report is asked for, which is all where there are no words, and says whether
+    /// each is known.
+    pub fn take_things(&mut self, words: &str) -> bool {
+        let words = if words.is_empty() { "all" } else { words };
+        for word in words.split(',') {
+            let Some(place) = thing_named(word) else {
+                return false;
+            };
+            let (is_all, before) = (place == 7, self.things);
+            self.verbose = place > 0;
+            self.things = match place {
+                0 => Things::NONE,
+                _ => Things {
+                    items: before.items || is_all || place == 2,
+                    lookaheads: before.lookaheads || is_all || place == 3,
+                    settled: before.settled || is_all || place == 4,
+                },
+            };
+        }
+        true
+    }
+
     /// No wishes, in a call as bison or not.
     pub fn none<'a>(bison: bool) -> Given<'a> {
         Given {
@@ -89,6 +138,8 @@ impl Given<'_> {
             no_lines: false,
             trace: false,
             verbose: false,
+            things: Things::NONE,
+            page: None,
             yacc: false,
             bison,
             language: None,

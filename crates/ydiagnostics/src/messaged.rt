@@ -133,6 +133,7 @@ impl Messaged {
                 add_error(alloc, told, by, of, (input, &rejection))?;
             }
             is_first = false;
+            reporting.take_back(rejection);
         }
         let language = reporting.into_language();
         Ok(Messaged { language, messages })

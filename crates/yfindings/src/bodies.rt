@@ -51,7 +51,7 @@ pub struct Cut<'a> {
 
 /// The lexemes after the sign before a body, up to the semicolon after it, and where that sign
 /// ends.
-fn after_sign<'a>(group: &Group<'a>) -> (&'a [Lexeme], usize) {
+pub fn after_sign<'a>(group: &Group<'a>) -> (&'a [Lexeme], usize) {
     let (mut rest, mut end) = (group.lexemes, 0);
     for (number, lexeme) in group.lexemes.iter().enumerate() {
         if matches!(lexeme.kind, Kind::Colon | Kind::Bar) {

@@ -36,7 +36,7 @@ fn named_in(seen: &Seen<'_>, lexemes: &[Lexeme]) -> Made<Option<Sym>> {
 }
 
 /// The tokens that give rules their precedence.
-fn givers_of(seen: &Seen<'_>, bodies: &[Body<'_>]) -> Made<Vec<Option<Sym>>> {
+pub fn givers_of(seen: &Seen<'_>, bodies: &[Body<'_>]) -> Made<Vec<Option<Sym>>> {
     let grammar = seen.grammar();
     let mut givers = vec![in seen.alloc; None; grammar.rules()]?;
     for body in bodies {
@@ -90,7 +90,7 @@ impl Settled {
 
 impl Seen<'_> {
     /// Whether a level comes from `%precedence`.
-    fn has_no_direction(&self, level: usize) -> bool {
+    pub fn has_no_direction(&self, level: usize) -> bool {
         let place = level.saturating_sub(1);
         self.imported.levels.get(place).copied().flatten().is_some()
     }

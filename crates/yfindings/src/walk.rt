@@ -60,6 +60,22 @@ pub fn left_in(tables: &Tables, state: usize, token: Sym, rule: usize) -> Left {
     left
 }
 
+/// The conflicts in a state, as bison counts them: a shift that meets two rules makes one of each
+/// kind.
+pub fn conflicts_in(tables: &Tables, state: usize) -> Conflicts {
+    let mut found = Conflicts {
+        shifts: 0,
+        reduces: 0,
+    };
+    for token in 0..grammar_of(tables).symbols() {
+        let left = left_in(tables, state, token, 0);
+        let is_met = left.has_shift && left.rules > 0;
+        found.shifts = found.shifts.saturating_add(usize::from(is_met));
+        found.reduces = found.reduces.saturating_add(left.rules.saturating_sub(1));
+    }
+    found
+}
+
 impl Walk {
     /// Comes to a state.
     fn come_to(&mut self, state: usize) -> Made<()> {
@@ -153,20 +169,16 @@ impl Walk {
         Ok(numbers)
     }
 
-    /// The conflicts in them, as bison counts them: a shift that meets two rules makes one of each
-    /// kind.
+    /// The conflicts in them.
     pub fn conflicts(&self, tables: &Tables) -> Conflicts {
         let mut found = Conflicts {
             shifts: 0,
             reduces: 0,
         };
         for state in &self.reached {
-            for token in 0..grammar_of(tables).symbols() {
-                let left = left_in(tables, *state, token, 0);
-                let is_met = left.has_shift && left.rules > 0;
-                found.shifts = found.shifts.saturating_add(usize::from(is_met));
-                found.reduces = found.reduces.saturating_add(left.rules.saturating_sub(1));
-            }
+            let more = conflicts_in(tables, *state);
+            found.shifts = found.shifts.saturating_add(more.shifts);
+            found.reduces = found.reduces.saturating_add(more.reduces);
         }
         found
     }

@@ -1,5 +1,5 @@
 //! All errors that a parse over an input reports, by the recovery that the grammar has, one after
-//! another: each has its whole stack, so that it is let go before the next one is sought.
+//! another: each is lent the stack, which is given back before the next one is sought.
 
 use crate::expected::expected;
 use crate::language::{Input, Language};
@@ -8,13 +8,13 @@ use crate::spelled::{Spelled, Spoken};
 use crate::verdict::Rejection;
 use std::alloc::{AllocError, Global};
 use std::io::{self, ErrorKind};
+use std::mem;
 use yexplain::lines::Lines;
 use yexplain::reads::{Made, grammar_of};
 use yfaults::opening::Opened;
 use ylalr::END;
 use ylex::lexer::Lexer;
 use yparse::machine::{StepFault, StepKind};
-use yparse::states::stack_states;
 use yparse::{Session, Tokens};
 use ysymbols::{Sym, let_go};
 
@@ -29,7 +29,9 @@ pub struct Reporting {
     lexer: Option<Lexer>,
     /// How many tokens were shifted or discarded.
     passed: usize,
-    /// How many were before the entry of each state of the stack.
+    /// The states of the stack, the first one of all at the bottom.
+    states: Vec<usize>,
+    /// How many tokens were before the entry of each.
     starts: Vec<usize>,
     /// How many steps were made since the last one that took something of the input, or `error`.
     since: usize,
@@ -38,8 +40,22 @@ pub struct Reporting {
 impl Drop for Reporting {
     // A call in each owner, which keeps their proofs short.
     fn drop(self) {
-        let_go!(self: Reporting { session, lines, spelled, lexer, passed, starts, since });
+        let_go!(self: Reporting {
+            session, lines, spelled, lexer, passed, states, starts, since
+        });
     }
+}
+
+/// Follows a step or an undo of a session with the states of its stack: all entries but the last one
+/// of the shorter stack stay.
+fn follow(session: &Session, states: &mut Vec<usize>) -> Made<()> {
+    let length = session.view().stack_len();
+    let kept = length.min(states.len().saturating_sub(1)).saturating_sub(1);
+    states.truncate(kept.saturating_add(1));
+    for index in kept..length {
+        states.push(session.state_at(index))?;
+    }
+    Ok(())
 }
 
 impl Reporting {
@@ -56,13 +72,14 @@ impl Reporting {
             // can't be, since each token is one of the tables
             return Err(io::Error::from(ErrorKind::Other));
         };
-        let starts = vec![in alloc; 0]?;
+        let (states, starts) = (vec![in alloc; 0]?, vec![in alloc; 0]?);
         Ok(Reporting {
             session,
             lines,
             spelled,
             lexer,
             passed: 0,
+            states,
             starts,
             since: 0,
         })
@@ -84,7 +101,8 @@ impl Reporting {
             StepKind::ShiftError => self.since = 0,
             _ => self.since = self.since.saturating_add(1),
         }
-        let states = self.session.view().stack_len().saturating_add(1);
+        follow(&self.session, &mut self.states)?;
+        let states = self.states.len();
         self.starts.truncate(states);
         if self.starts.len() < states {
             self.starts.push(before).map_err(AllocError::from)?;
@@ -92,33 +110,42 @@ impl Reporting {
         Ok(Some(kind))
     }
 
-    /// The error that the last step detected, at this token ahead. Which tokens can come is asked
-    /// where the token before it was taken, before any reduction.
+    /// The error that the last step detected, at this token ahead, with the stack. Which tokens can
+    /// come is asked where the token before it was taken, before any reduction.
     fn rejection(&mut self, alloc: Global, token: Sym) -> Made<Rejection> {
-        let states = stack_states(alloc, &self.session)?;
         let steps = self.since;
         for _ in 0..steps {
             let _ = self.session.back();
+            follow(&self.session, &mut self.states)?;
         }
-        let before = stack_states(alloc, &self.session)?;
-        let wanted = expected(alloc, self.session.tables(), &before)?;
+        let wanted = expected(alloc, self.session.tables(), &self.states)?;
         for _ in 0..steps {
             let _ = self.session.step();
+            follow(&self.session, &mut self.states)?;
         }
         Ok(Rejection {
             number: self.passed.saturating_add(1),
             token,
             wanted,
-            state: states.last().copied().unwrap_or(0),
-            states,
-            starts: Vec::from_slice(alloc, &self.starts)?,
+            state: self.states.last().copied().unwrap_or(0),
+            states: mem::replace(&mut self.states, Vec::new(alloc)),
+            starts: mem::replace(&mut self.starts, Vec::new(alloc)),
         })
     }
 
-    /// The next error that is reported, where there is one more. A parse that has no recovery
-    /// reports one.
+    /// Takes the stack back from the last error, without which the parse doesn't go on.
+    pub fn take_back(&mut self, rejection: Rejection) {
+        let Rejection { states, starts, .. } = rejection;
+        self.states = states;
+        self.starts = starts;
+    }
+
+    /// The next error that is reported, where there is one more and the stack was taken back from the
+    /// last one. A parse that has no recovery reports one.
     pub fn next(&mut self, alloc: Global, input: &Input) -> io::Result<Option<Rejection>> {
-        for _ in 0..MOST_STEPS {
+        let has_stack = !self.states.is_empty();
+        let most = if has_stack { MOST_STEPS } else { 0 };
+        for _ in 0..most {
             let reported = self.session.view().errors();
             let Some(kind) = self.step()? else {
                 break;
@@ -147,6 +174,7 @@ impl Reporting {
             spelled,
             lexer,
             passed: _,
+            states: _,
             starts: _,
             since: _,
         } = self;

@@ -7,6 +7,7 @@ use crate::rewriting::rewritten;
 use std::alloc::{AllocError, Global};
 use yexplain::lines::Lines;
 use yexplain::reads::Made;
+use yfiles::output::Output;
 use ygrammar::{Grammar, GrammarFault, read_grammar};
 use ylalr::{BuildFault, build};
 use ytables::{Tables, resolve};
@@ -43,18 +44,15 @@ pub fn tables_after(
         lines,
         change,
     };
-    let mut text = Vec::new(alloc);
-    let is_written = match change {
+    let mut out = Output::new(alloc);
+    match change {
         Change::Rewritten(rewriting) => {
             let rules = rewritten(alloc, grammar, lines, rewriting)?;
-            changed.put_written(&mut text, &rules)
+            changed.put_written(&mut out, &rules);
         }
-        _ => changed.put(&mut text),
-    };
-    if is_written.is_err() {
-        return Err(AllocError);
+        _ => changed.put(&mut out),
     }
-    tables_of(alloc, &text)
+    tables_of(alloc, &out.into_bytes()?)
 }
 
 /// How many conflicts the tables of a grammar have after a change; `None` where what comes of it is

@@ -1,16 +1,15 @@
 //! A changed grammar as the text of a grammar file, without actions.
 
 use crate::rewriting::{Rewriting, Written};
-use std::io::{self, Write};
 use yexplain::lines::{Lines, is_inner};
 use yexplain::reads::{body_of, left_of, level_of, name_of};
+use yfiles::output::Output;
 use ylalr::{ERROR, token_count};
 use ysymbols::{Associativity, Grammar, Sym};
 
 /// Writes a name after a space.
-fn put_name<W: Write>(out: &mut W, grammar: &Grammar, symbol: Sym) -> io::Result<()> {
-    out.write_all(b" ")?;
-    out.write_all(name_of(grammar, symbol))
+fn put_name(out: &mut Output, grammar: &Grammar, symbol: Sym) {
+    out.put_pieces(&[b" ", name_of(grammar, symbol)]);
 }
 
 /// The directive for lines of precedence.
@@ -23,76 +22,74 @@ pub fn directive_of(kind: Associativity) -> &'static str {
 }
 
 /// Writes the tokens of a level.
-fn put_level<W: Write>(out: &mut W, grammar: &Grammar, level: usize) -> io::Result<()> {
+fn put_level(out: &mut Output, grammar: &Grammar, level: usize) {
     let mut is_begun = false;
     for token in ERROR..token_count(grammar) {
         match level_of(grammar, token) {
             Some(it) if it.level == level => {
                 if !is_begun {
-                    out.write_all(directive_of(it.kind).as_bytes())?;
+                    out.put(directive_of(it.kind));
                     is_begun = true;
                 }
-                put_name(out, grammar, token)?;
+                put_name(out, grammar, token);
             }
             _ => {}
         }
     }
-    writeln!(out)
+    out.put_bytes(b"\n");
 }
 
 /// The name of a precedence of a rule's own, which no file has a token of.
 const OWN: &[u8] = b"own.precedence";
 
 /// Writes the line of a precedence of a rule's own.
-fn put_own<W: Write>(out: &mut W) -> io::Result<()> {
-    out.write_all(b"\n%right ")?;
-    out.write_all(OWN)?;
-    writeln!(out)
+fn put_own(out: &mut Output) {
+    out.put_pieces(&[b"\n%right ", OWN, b"\n"]);
 }
 
 /// Writes the declarations: the tokens that have names, not literals, and no precedence; those of
 /// each level, and a precedence of a rule's own, where it goes before one or after it; the start
 /// symbol.
-fn put_declarations<W: Write>(
-    out: &mut W,
+fn put_declarations(
+    out: &mut Output,
     grammar: &Grammar,
     own: Option<(usize, bool)>,
-) -> io::Result<()> {
+) {
     let mut last: usize = 0;
     for token in ERROR..token_count(grammar) {
         if let Some(it) = level_of(grammar, token) {
             last = last.max(it.level);
         } else if token > ERROR && !name_of(grammar, token).starts_with(b"'") {
-            out.write_all(b"%token")?;
-            put_name(out, grammar, token)?;
-            writeln!(out)?;
+            out.put_bytes(b"%token");
+            put_name(out, grammar, token);
+            out.put_bytes(b"\n");
         }
     }
     for level in 1..last.saturating_add(1) {
         if own == Some((level, true)) {
-            put_own(out)?;
+            put_own(out);
         }
-        put_level(out, grammar, level)?;
+        put_level(out, grammar, level);
         if own == Some((level, false)) {
-            put_own(out)?;
+            put_own(out);
         }
     }
     if let Some(start) = body_of(grammar, 0).first() {
-        out.write_all(b"%start")?;
-        put_name(out, grammar, *start)?;
+        out.put_bytes(b"%start");
+        put_name(out, grammar, *start);
     }
-    Ok(())
 }
 
 /// Writes a line of precedence for one token.
-fn put_line<W: Write>(
-    out: &mut W,
+fn put_line(
+    out: &mut Output,
     grammar: &Grammar,
     kind: Associativity,
     token: Sym,
-) -> io::Result<()> {
-    write!(out, "\n{}", directive_of(kind))?;
-    put_name(out, grammar, token)
+) {
+    out.put_bytes(b"\n");
+    out.put(directive_of(kind));
+    put_name(out, grammar, token);
 }
 
 /// A change of a grammar.
@@ -150,134 +147,131 @@ const FRESH: &[u8] = b"new.symbol";
 impl Changed<'_> {
     /// Writes a rule, with this after the name of its left side, and the token that gives it a
     /// precedence. An action stands for each symbol of the body that was made for one.
-    fn put_rule<W: Write>(&self, out: &mut W, rule: usize, after: &[u8]) -> io::Result<()> {
+    fn put_rule(&self, out: &mut Output, rule: usize, after: &[u8]) {
         let (grammar, body) = (self.grammar, body_of(self.grammar, rule));
-        out.write_all(name_of(grammar, left_of(grammar, rule).unwrap_or(0)))?;
-        out.write_all(after)?;
-        out.write_all(b" :")?;
+        let left = name_of(grammar, left_of(grammar, rule).unwrap_or(0));
+        out.put_pieces(&[left, after, b" :"]);
         let mut is_last_action = false;
         for symbol in body {
             let symbol = *symbol;
             is_last_action = name_of(grammar, symbol).starts_with(b"$$");
             if is_last_action {
-                out.write_all(b" {}")?;
+                out.put_bytes(b" {}");
             } else {
-                put_name(out, grammar, symbol)?;
+                put_name(out, grammar, symbol);
                 if self.change == (Change::Copied { symbol, rule }) {
-                    out.write_all(COPY)?;
+                    out.put_bytes(COPY);
                 }
             }
         }
         if is_last_action {
             // an action at the end would be that of the rule
-            out.write_all(b" {}")?;
+            out.put_bytes(b" {}");
         }
         let is_own = matches!(self.change, Change::Own { rule: it, .. } if it == rule);
         if is_own {
-            out.write_all(b" %prec ")?;
-            out.write_all(OWN)?;
+            out.put_pieces(&[b" %prec ", OWN]);
         } else if let Some(giver) = self.lines.giver(grammar, rule) {
-            out.write_all(b" %prec")?;
-            put_name(out, grammar, giver)?;
+            out.put_bytes(b" %prec");
+            put_name(out, grammar, giver);
         }
-        out.write_all(b" ;\n")
+        out.put_bytes(b" ;\n");
     }
 
     /// Writes the declarations, with lines of precedence that are new.
-    fn put_lines<W: Write>(&self, out: &mut W) -> io::Result<()> {
+    fn put_lines(&self, out: &mut Output) {
         let grammar = self.grammar;
+        let mut own = None;
         match self.change {
-            Change::Without(_) | Change::Copied { .. } => put_declarations(out, grammar, None),
             Change::Rewritten(Rewriting::Token { .. }) => {
-                out.write_all(b"%token ")?;
-                out.write_all(FRESH)?;
-                writeln!(out)?;
-                put_declarations(out, grammar, None)
+                out.put_pieces(&[b"%token ", FRESH, b"\n"]);
             }
-            Change::Rewritten(_) => put_declarations(out, grammar, None),
+            Change::Own { token, shifts, .. } => {
+                if let Some(it) = level_of(grammar, token) {
+                    own = Some((it.level, shifts));
+                }
+            }
+            _ => {}
+        }
+        put_declarations(out, grammar, own);
+        match self.change {
             Change::Lines {
                 kind,
                 first,
                 second,
             } => {
-                put_declarations(out, grammar, None)?;
-                put_line(out, grammar, kind, first)?;
-                match second {
-                    Some(second) => put_line(out, grammar, kind, second),
-                    None => Ok(()),
+                put_line(out, grammar, kind, first);
+                if let Some(second) = second {
+                    put_line(out, grammar, kind, second);
                 }
             }
-            Change::Own { token, shifts, .. } => {
-                if let Some(it) = level_of(grammar, token) {
-                    return put_declarations(out, grammar, Some((it.level, shifts)));
-                }
-                put_declarations(out, grammar, None)?;
+            Change::Own { token, shifts, .. } if own.is_none() => {
                 if shifts {
-                    put_own(out)?;
-                    return put_line(out, grammar, Associativity::Right, token);
+                    put_own(out);
                 }
-                put_line(out, grammar, Associativity::Right, token)?;
-                put_own(out)
+                put_line(out, grammar, Associativity::Right, token);
+                if !shifts {
+                    put_own(out);
+                }
             }
+            _ => {}
         }
     }
 
     /// Writes the grammar, and after it the rules of a copy, which are those of its nonterminal.
-    pub fn put<W: Write>(&self, out: &mut W) -> io::Result<()> {
+    pub fn put(&self, out: &mut Output) {
         let (grammar, change) = (self.grammar, self.change);
-        self.put_lines(out)?;
-        out.write_all(b"\n%%\n")?;
+        self.put_lines(out);
+        out.put_bytes(b"\n%%\n");
         for rule in 1..grammar.rules() {
             if change != Change::Without(rule) && !is_inner(grammar, rule) {
-                self.put_rule(out, rule, b"")?;
+                self.put_rule(out, rule, b"");
             }
         }
         if let Change::Copied { symbol, .. } = change {
             for rule in 1..grammar.rules() {
                 if left_of(grammar, rule) == Some(symbol) {
                     let change = Change::Without(rule);
-                    Changed { change, ..*self }.put_rule(out, rule, COPY)?;
+                    Changed { change, ..*self }.put_rule(out, rule, COPY);
                 }
             }
         }
-        Ok(())
     }
 
     /// Writes a symbol after a space, also a new one.
-    fn put_symbol<W: Write>(&self, out: &mut W, symbol: Sym) -> io::Result<()> {
+    fn put_symbol(&self, out: &mut Output, symbol: Sym) {
         if symbol < self.grammar.symbols() {
-            return put_name(out, self.grammar, symbol);
+            put_name(out, self.grammar, symbol);
+        } else {
+            out.put_pieces(&[b" ", FRESH]);
         }
-        out.write_all(b" ")?;
-        out.write_all(FRESH)
     }
 
     /// Writes the grammar with these rules in place of its own.
-    pub fn put_written<W: Write>(&self, out: &mut W, rules: &[Written]) -> io::Result<()> {
-        self.put_lines(out)?;
-        out.write_all(b"\n%%\n")?;
+    pub fn put_written(&self, out: &mut Output, rules: &[Written]) {
+        self.put_lines(out);
+        out.put_bytes(b"\n%%\n");
         for rule in rules {
-            self.put_symbol(out, rule.left)?;
-            out.write_all(b" :")?;
+            self.put_symbol(out, rule.left);
+            out.put_bytes(b" :");
             let mut is_last_action = false;
             for symbol in &rule.body {
                 is_last_action = name_of(self.grammar, *symbol).starts_with(b"$$");
                 if is_last_action {
-                    out.write_all(b" {}")?;
+                    out.put_bytes(b" {}");
                 } else {
-                    self.put_symbol(out, *symbol)?;
+                    self.put_symbol(out, *symbol);
                 }
             }
             if is_last_action {
                 // an action at the end would be that of the rule
-                out.write_all(b" {}")?;
+                out.put_bytes(b" {}");
             }
             if let Some(giver) = rule.giver {
-                out.write_all(b" %prec")?;
-                put_name(out, self.grammar, giver)?;
+                out.put_bytes(b" %prec");
+                put_name(out, self.grammar, giver);
             }
-            out.write_all(b" ;\n")?;
+            out.put_bytes(b" ;\n");
         }
-        Ok(())
     }
 }

@@ -5,7 +5,7 @@ use crate::arrays::put_array;
 use std::alloc::Global;
 use ycode::Code;
 use yexplain::lines::is_inner;
-use yexplain::reads::{Made, is_set, left_of, name_of, set};
+use yexplain::reads::{Made, is_reachable, is_set, left_of, name_of, set};
 use yfiles::output::Output;
 use ylalr::{ERROR, token_count};
 use yparts::parts::{By, Parts};
@@ -39,13 +39,21 @@ pub struct Numbering {
     pub order: Vec<Sym>,
     /// Whether that of the tokens is another one than that of the grammar.
     pub is_reordered: bool,
+    /// The numbers that bison gives the rules, which are counted among those that can be reached.
+    pub rules: Vec<usize>,
+    /// The numbers of tokens in a report, which bison gives also where a parser has those of
+    /// symbols.
+    pub told: Vec<Option<usize>>,
+    /// The token for what is no token, where the file names it.
+    pub none: Option<Sym>,
 }
 
 impl Drop for Numbering {
     // A call in each owner, which keeps their proofs short.
     fn drop(self) {
         let_go!(self: Numbering {
-            numbers, undefined, array, above, is_changed, order, is_reordered
+            numbers, undefined, array, above, is_changed, order, is_reordered, rules, told,
+            none
         });
     }
 }
@@ -222,6 +230,19 @@ fn order_of(alloc: Global, grammar: &Grammar, parts: &Parts<'_>) -> Made<Vec<Sym
     Ok(order)
 }
 
+/// The numbers that bison gives the rules.
+fn rules_of(alloc: Global, grammar: &Grammar) -> Made<Vec<usize>> {
+    let (mut numbers, mut number) = (Vec::new(alloc), 0usize);
+    for rule in 0..grammar.rules() {
+        numbers.push(number)?;
+        let left = left_of(grammar, rule).unwrap_or(0);
+        if rule == 0 || is_reachable(grammar, left) {
+            number = number.saturating_add(1);
+        }
+    }
+    Ok(numbers)
+}
+
 /// Gives numbers to the tokens that have none as bison does, above all others in their order, of
 /// which what is no token is the third. Gives the number of that.
 fn fill_by_bison(numbers: &mut Vec<Option<usize>>, grammar: &Grammar, order: &[Sym]) -> usize {
@@ -270,15 +291,17 @@ impl Numbering {
         let mut numbers = own_numbers(alloc, grammar, parts)?;
         let order = order_of(alloc, grammar, parts)?;
         let mut undefined = NO_TOKEN;
+        if is_bison {
+            undefined = fill_by_bison(&mut numbers, grammar, &order);
+        } else {
+            fill_by_byacc(alloc, &mut numbers, parts)?;
+        }
+        let told = Vec::from_slice(alloc, &numbers)?;
         if is_bison && parts.options.raw {
             undefined = code.tokens;
             for (token, number) in numbers.iter_mut().enumerate() {
                 *number = Some(token);
             }
-        } else if is_bison {
-            undefined = fill_by_bison(&mut numbers, grammar, &order);
-        } else {
-            fill_by_byacc(alloc, &mut numbers, parts)?;
         }
         let (mut is_changed, mut is_reordered) = (false, false);
         for (token, number) in numbers.iter().enumerate() {
@@ -294,6 +317,9 @@ impl Numbering {
             is_changed,
             order,
             is_reordered,
+            rules: rules_of(alloc, grammar)?,
+            told,
+            none: grammar.find(UNDEFINED),
         };
         if is_changed {
             numbering.place_all(alloc, code.tokens)?;

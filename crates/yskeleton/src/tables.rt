@@ -6,7 +6,7 @@ use crate::skeleton::Skeleton;
 use crate::strings::{Escaped, put_string};
 use std::alloc::Global;
 use yexplain::lines::is_inner;
-use yexplain::reads::{Made, body_of, is_reachable, left_of, name_of, set};
+use yexplain::reads::{Made, body_of, left_of, name_of, set};
 use yfiles::output::Output;
 use yinput::spelled::usual_call;
 use ylalr::{END, ERROR, token_count};
@@ -327,21 +327,16 @@ impl Skeleton<'_> {
     }
 
     /// Writes what a trace shows of rules and states as bison has it: the line that each rule
-    /// begins on, its number among those that can be reached, and the numbers of states, of which
-    /// the last is that of the one in which the end is shifted.
+    /// begins on, its number, and the numbers of states, of which the last is that of the one in
+    /// which the end is shifted.
     pub fn put_shown(&self, alloc: Global, out: &mut Output) -> Made<()> {
         let (grammar, parts) = (self.grammar, self.parts);
-        let (mut lines, mut numbers) = (Vec::new(alloc), Vec::new(alloc));
-        let (mut body, mut number, mut greatest) = (0usize, 0usize, 0usize);
+        let mut lines = Vec::new(alloc);
+        let (mut body, mut greatest) = (0usize, 0usize);
         for rule in 0..grammar.rules() {
             let line = parts.lines.get(body).copied().unwrap_or(0);
             greatest = greatest.max(line);
             lines.push(line)?;
-            numbers.push(number)?;
-            let left = left_of(grammar, rule).unwrap_or(0);
-            if rule == 0 || is_reachable(grammar, left) {
-                number = number.saturating_add(1);
-            }
             if rule > 0 && !is_inner(grammar, rule) {
                 body = body.saturating_add(1);
             }
@@ -354,7 +349,7 @@ impl Skeleton<'_> {
         }
         self.put_macros(out, "#if @DEBUG\n");
         put_array(out, "yyrline", &lines, greatest);
-        put_array(out, "yyruleno", &numbers, grammar.rules());
+        put_array(out, "yyruleno", &self.numbering.rules, grammar.rules());
         put_array(out, "yystateno", self.states, self.code.states);
         out.put("#endif\n");
         Ok(())

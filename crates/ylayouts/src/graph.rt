@@ -1,16 +1,14 @@
 //! The automaton as a graph in DOT, laid out as bison or byacc writes it.
 
-use std::alloc::Global;
-use ycode::Code;
+use crate::layout::Layout;
 use yexplain::reads::{
     Made, action_of, body_of, goto_of, grammar_of, is_complete, is_kernel, items_of, left_of,
-    looks_at, name_of,
+    looks_at,
 };
 use yfiles::output::Output;
-use yfindings::walk::{Walk, left_in};
 use ylalr::{ERROR, Item, token_count};
 use ysymbols::Sym;
-use ytables::{Action, Tables};
+use ytables::Action;
 
 /// What stands before the states.
 const HEAD: &str = "\"\n{
@@ -32,27 +30,6 @@ const OLD_HEAD: &str = " {
 \t*/
 ";
 
-/// The bits of a byte.
-const BITS: [usize; 8] = [1, 2, 4, 8, 16, 32, 64, 128];
-
-/// An automaton that is drawn: its tables, the names of its symbols in the file, and which states
-/// reduce by default.
-#[derive(Clone, Copy)]
-pub struct Graph<'a> {
-    /// What allocates.
-    pub alloc: Global,
-    /// The tables.
-    pub tables: &'a Tables,
-    /// What symbols are called.
-    pub names: &'a [Vec<u8>],
-    /// The arrays of the parser.
-    pub code: &'a Code,
-    /// The numbers that bison gives the states, and the one in which the end is shifted.
-    pub states: &'a [usize],
-    /// The symbols in bison's order, the tokens first.
-    pub order: &'a [Sym],
-}
-
 /// Writes bytes within quotes.
 fn put_quoted(out: &mut Output, bytes: &[u8]) {
     for byte in bytes {
@@ -63,12 +40,10 @@ fn put_quoted(out: &mut Output, bytes: &[u8]) {
     }
 }
 
-impl Graph<'_> {
+impl Layout<'_> {
     /// Writes what a symbol is called.
     fn put_name(&self, out: &mut Output, symbol: Sym) {
-        if let Some(name) = self.names.get(symbol) {
-            put_quoted(out, name.as_slice());
-        }
+        put_quoted(out, self.manner.name(symbol));
     }
 
     /// Writes the body of an item with a dot.
@@ -85,33 +60,27 @@ impl Graph<'_> {
         }
     }
 
-    /// Writes an item of a rule, whose left side may be that of the item before.
-    fn put_item(&self, out: &mut Output, item: Item, before: Option<Sym>) {
-        let grammar = grammar_of(self.tables);
-        if item.rule < 100 {
-            out.put(if item.rule < 10 { "  " } else { " " });
+    /// Writes an item, whose left side may be that of the rule before.
+    fn put_item(&self, out: &mut Output, item: Item, before: Option<usize>) {
+        let rule = self.rule(item.rule);
+        if rule < 100 {
+            out.put(if rule < 10 { "  " } else { " " });
         }
-        out.number(item.rule);
+        out.number(rule);
         out.put(" ");
-        let left = left_of(grammar, item.rule);
-        match (left, before) {
-            (Some(left), Some(before)) if left == before => {
-                out.spaces(name_of(grammar, left).len());
-                out.put("| ");
-            }
-            (Some(left), _) => {
+        match self.new_left(item.rule, before) {
+            Some(left) => {
                 self.put_name(out, left);
                 out.put(": ");
             }
-            (None, _) => out.put("$accept: "),
+            None => {
+                let left = left_of(self.grammar(), item.rule).unwrap_or(0);
+                out.spaces(self.manner.width(left));
+                out.put("| ");
+            }
         }
         self.put_body(out, item, "•");
         out.put("\\l");
-    }
-
-    /// The number that bison gives a state.
-    fn number(&self, state: usize) -> usize {
-        self.states.get(state).copied().unwrap_or(state)
     }
 
     /// Writes the kernel of a state.
@@ -120,28 +89,17 @@ impl Graph<'_> {
         for item in items_of(self.tables.automaton(), state) {
             if is_kernel(*item) {
                 self.put_item(out, *item, before);
-                before = left_of(grammar_of(self.tables), item.rule);
+                before = Some(item.rule);
             }
         }
         out.put("\"]\n");
     }
 
-    /// Writes where symbols lead from a state: shifts, gotos, and `error`. After all of ours comes
-    /// the state in which the end is shifted.
+    /// Writes where symbols lead from a state: shifts, gotos, and `error`.
     fn put_ways(&self, out: &mut Output, state: usize) {
-        let grammar = grammar_of(self.tables);
-        for symbol in self.order {
+        for symbol in &self.numbering.order {
             let symbol = *symbol;
-            let (next, style) = if grammar.is_token(symbol) {
-                match action_of(self.tables, state, symbol) {
-                    Action::Shift(next) => (Some(next), "solid"),
-                    Action::Accept => (Some(self.code.states), "solid"),
-                    _ => (None, ""),
-                }
-            } else {
-                (goto_of(self.tables.automaton(), state, symbol), "dashed")
-            };
-            let Some(next) = next else {
+            let Some(next) = self.way(state, symbol) else {
                 continue;
             };
             out.put("  ");
@@ -152,26 +110,12 @@ impl Graph<'_> {
                 out.put(" [style=dotted]\n");
                 continue;
             }
+            let is_shift = self.grammar().is_token(symbol);
             out.put(" [style=");
-            out.put(style);
+            out.put(if is_shift { "solid" } else { "dashed" });
             out.put(" label=\"");
             self.put_name(out, symbol);
             out.put("\"]\n");
-        }
-    }
-
-    /// The rule that a state reduces by default, where it does: what is no token is in its set.
-    fn default_rule(&self, state: usize) -> Option<usize> {
-        let code = self.code;
-        let number = *code.sets.as_slice().get(state)?;
-        let place = number
-            .saturating_mul(code.span)
-            .saturating_add(code.tokens / 8);
-        let byte = code.bits.as_slice().get(place).copied().unwrap_or(0);
-        if number == 0 || byte & *BITS.get(code.tokens % 8)? != 0 {
-            code.usual.as_slice().get(state).copied()
-        } else {
-            None
         }
     }
 
@@ -185,9 +129,9 @@ impl Graph<'_> {
         is_lost: bool,
     ) -> bool {
         let mut any = false;
-        for token in self.order {
+        for token in self.tokens() {
             let is_meant = owned.get(*token) == Some(&is_lost);
-            if is_meant && left_in(self.tables, state, *token, rule).has_rule {
+            if is_meant && self.is_left(state, *token, rule) {
                 out.put(if any { ", " } else { "" });
                 self.put_name(out, *token);
                 any = true;
@@ -198,30 +142,26 @@ impl Graph<'_> {
 
     /// Writes the reductions of a state, each apart at tokens at which it loses a conflict.
     fn put_reductions(&self, out: &mut Output, state: usize) -> Made<()> {
-        let grammar = grammar_of(self.tables);
         let mut owned = Vec::new(self.alloc);
-        for token in 0..token_count(grammar) {
+        for token in 0..token_count(self.grammar()) {
             let is_free = matches!(action_of(self.tables, state, token), Action::Reduce(_));
             owned.push(!is_free)?;
         }
         let (default, number) = (self.default_rule(state), self.number(state));
-        for item in items_of(self.tables.automaton(), state) {
-            let rule = item.rule;
-            if rule == 0 || !is_complete(grammar, *item) {
-                continue;
-            }
+        for item in &self.ready(state)? {
+            let (rule, named) = (item.rule, self.rule(item.rule));
             let (mut lost, mut taken) = (Output::new(self.alloc), Output::new(self.alloc));
             if self.put_tokens(&mut lost, (state, rule), &owned, true) {
-                put_reduction(out, (number, rule), Some(&lost), "d", "5");
+                put_reduction(out, (number, named), Some(&lost), "d", "5");
             }
             let is_taken = self.put_tokens(&mut taken, (state, rule), &owned, false);
             if default == Some(rule) {
-                put_reduction(out, (number, rule), None, "", "3");
+                put_reduction(out, (number, named), None, "", "3");
             } else if is_taken {
-                put_reduction(out, (number, rule), Some(&taken), "", "3");
+                put_reduction(out, (number, named), Some(&taken), "", "3");
             }
             for (token, it) in owned.iter_mut().enumerate() {
-                *it = *it || left_in(self.tables, state, token, rule).has_rule;
+                *it = *it || self.is_left(state, token, rule);
             }
         }
         Ok(())
@@ -259,7 +199,7 @@ impl Graph<'_> {
     }
 
     /// The graph as byacc writes it, by this name.
-    pub fn old_text(&self, name: &str) -> Made<Vec<u8>> {
+    pub fn old_graph(&self, name: &str) -> Made<Vec<u8>> {
         let (automaton, mut out) = (self.tables.automaton(), Output::new(self.alloc));
         out.put("digraph ");
         out.put(name);
@@ -286,24 +226,15 @@ impl Graph<'_> {
     }
 
     /// The graph of a grammar file of this path.
-    pub fn text(&self, path: &str) -> Made<Vec<u8>> {
+    pub fn graph(&self, path: &str) -> Made<Vec<u8>> {
         let mut out = Output::new(self.alloc);
         out.put("// Generated by ycc.\n\ndigraph \"");
         put_quoted(&mut out, path.as_bytes());
         out.put(HEAD);
-        let walk = Walk::new(self.alloc, self.tables)?;
-        let end = self.code.states;
-        let mut drawn = Vec::new(self.alloc);
-        for state in 0..end.saturating_add(1) {
-            if state == end || walk.comes_to(state) {
-                drawn.push((self.number(state), state))?;
-            }
-        }
-        drawn.sort()?;
-        for (number, state) in &drawn {
+        for (number, state) in &self.drawn()? {
             put_head(&mut out, *number);
-            if *state == end {
-                let dot = body_of(grammar_of(self.tables), 0).len();
+            if *state == self.end() {
+                let dot = body_of(self.grammar(), 0).len();
                 self.put_item(&mut out, Item { rule: 0, dot }, None);
                 out.put("\"]\n");
                 put_reduction(&mut out, (*number, 0), None, "", "1");
