@@ -3,13 +3,13 @@
 use crate::called::called_by;
 use crate::ending::{Ending, File};
 use std::env;
-use ylayouts::examples::{Heading, put_examples};
-use ylayouts::manner::{ASCII, Manner, Signs, UTF_8};
 use yfiles::diagnostic::Diagnostics;
 use yfiles::steady::Steady;
 use yfindings::kinds::Telling;
 use yfrontend::import::{Dialect, Foreign, Read, open_grammar};
 use yfrontend::notes::Source;
+use ylayouts::examples::{Heading, put_examples};
+use ylayouts::manner::{ASCII, Manner, Signs, UTF_8};
 use yskeleton::Skeleton;
 
 /// Whether a name of a place says that its texts are in UTF-8.
@@ -25,7 +25,11 @@ pub fn signs_of(rt: &HostRuntime) -> Signs {
     for name in ["LC_ALL", "LC_CTYPE", "LANG"] {
         if let Ok(value) = env::var(rt, name) {
             if !value.is_empty() {
-                return if names_utf_8(value.as_bytes()) { UTF_8 } else { ASCII };
+                return if names_utf_8(value.as_bytes()) {
+                    UTF_8
+                } else {
+                    ASCII
+                };
             }
         }
     }

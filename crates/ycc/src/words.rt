@@ -80,7 +80,14 @@ pub struct Given<'a> {
 
 /// What a report may be asked for, by its names.
 const THINGS: [&str; 8] = [
-    "none", "states", "itemsets", "lookaheads", "solved", "counterexamples", "cex", "all",
+    "none",
+    "states",
+    "itemsets",
+    "lookaheads",
+    "solved",
+    "counterexamples",
+    "cex",
+    "all",
 ];
 
 /// The place of a thing by its name, or by the beginning of no other one.

@@ -103,7 +103,8 @@ impl Sheet {
         if self.is_page {
             let is_told = matches!(mark, Mark::State | Mark::Rule);
             let is_state = matches!(mark, Mark::State | Mark::ToState);
-            self.out.put(if is_told { "<a id=\"" } else { "<a href=\"#" });
+            self.out
+                .put(if is_told { "<a id=\"" } else { "<a href=\"#" });
             self.out.put(if is_state { "state_" } else { "rule_" });
             self.out.number(number);
             self.out.put("\">");

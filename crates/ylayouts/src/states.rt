@@ -6,8 +6,8 @@ use yexplain::reads::{
     Made, action_of, body_of, candidates_of, goto_of, is_kernel, items_of, level_of, rule_of,
     shift_of,
 };
-use yprovenance::Candidate;
 use ylalr::Item;
+use yprovenance::Candidate;
 use ysymbols::{Associativity, Sym};
 use ytables::{Action, Class, Standing};
 

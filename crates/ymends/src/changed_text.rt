@@ -50,11 +50,7 @@ fn put_own(out: &mut Output) {
 /// Writes the declarations: the tokens that have names, not literals, and no precedence; those of
 /// each level, and a precedence of a rule's own, where it goes before one or after it; the start
 /// symbol.
-fn put_declarations(
-    out: &mut Output,
-    grammar: &Grammar,
-    own: Option<(usize, bool)>,
-) {
+fn put_declarations(out: &mut Output, grammar: &Grammar, own: Option<(usize, bool)>) {
     let mut last: usize = 0;
     for token in ERROR..token_count(grammar) {
         if let Some(it) = level_of(grammar, token) {
@@ -81,12 +77,7 @@ fn put_declarations(
 }
 
 /// Writes a line of precedence for one token.
-fn put_line(
-    out: &mut Output,
-    grammar: &Grammar,
-    kind: Associativity,
-    token: Sym,
-) {
+fn put_line(out: &mut Output, grammar: &Grammar, kind: Associativity, token: Sym) {
     out.put_bytes(b"\n");
     out.put(directive_of(kind));
     put_name(out, grammar, token);
