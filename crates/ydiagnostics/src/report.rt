@@ -85,10 +85,10 @@ fn sheet_of(
     };
     sheet.kinds = shown.kind_sheets(alloc, grammar, &found, &sought.findings)?;
     sheet.causes = scene.tell(told, &found)?;
-    if let Some(common) = common {
+    if let Some(mut common) = common {
         let is_whole = found.groups.len() == all;
         let known = if is_whole { Some(&sought) } else { None };
-        sheet.common = Some(common_sheet(alloc, (grammar, shown.lines), common, known)?);
+        sheet.common = Some(common_sheet(alloc, (grammar, shown.lines), &mut common, known)?);
     }
     Ok(sheet)
 }

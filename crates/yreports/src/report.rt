@@ -26,7 +26,7 @@ use yfiles::steady::Steady;
 use ylists::kinds::{put_counts, put_named};
 use ylists::list_text::{ListText, is_merged, put_unfound};
 use ylists::saving::{Folder, put_failed};
-use ymends::mending::Mender;
+use ymends::mending::{Mended, Mender};
 use ymends::words::MendText;
 use yparse::Session;
 use yprovenance::Reasons;
@@ -240,18 +240,30 @@ impl<F: Files + AllocGlobal + Clone + Drop> Report<'_, F> {
         let offer = offer.beside(&mended);
         let offered = (block.first.number, offer.has_hints());
         self.offers.push(offered).map_err(AllocError::from)?;
-        self.put_block(tables, block, offer)?;
-        self.put_finding(tables, block, &finding)?;
         let text = AmbiguityText {
             grammar: grammar_of(tables),
             lines,
             trees: &found.trees,
         };
+        self.put_block(tables, block, offer)?;
+        self.put_finding(tables, block, &finding)?;
         put_answers(self.alloc, &mut self.page, text, &answers, mender.bound())?;
+        self.put_known(tables, block, offer, (mender, &mended))
+    }
+
+    /// Writes what is offered for a block, what is known of it beside, and what is otherwise on
+    /// further tokens.
+    fn put_known(
+        &mut self,
+        tables: &Tables,
+        block: &Block,
+        offer: Offer,
+        (mender, mended): (&Mender, &Mended),
+    ) -> io::Result<()> {
+        let (lines, grammar) = (self.lines, grammar_of(tables));
         let text = block_text(self.path, lines, tables, offer);
         text.put_offer(&mut self.page);
-        let grammar = grammar_of(tables);
-        MendText { grammar, lines }.put(&mut self.page, &mender.idioms, &mended)?;
+        MendText { grammar, lines }.put(&mut self.page, &mender.idioms, mended)?;
         text.put_further(&mut self.page, block);
         Ok(())
     }
