@@ -60,8 +60,7 @@ impl Report<'_> {
         self.put_lost(&mut sheet)?;
         self.put_conflicts(&mut sheet, &drawn);
         self.put_grammar(&mut sheet);
-        self.put_tokens(&mut sheet)?;
-        self.put_nonterminals(&mut sheet);
+        self.put_symbols(&mut sheet)?;
         for (number, state) in &drawn {
             self.put_state(&mut sheet, *number, *state)?;
         }

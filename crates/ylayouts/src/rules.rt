@@ -5,7 +5,42 @@ use crate::sheet::{Mark, Sheet};
 use crate::spare::Part;
 use yexplain::reads::{Made, body_of, is_reachable, is_set, left_of};
 use yfindings::walk::{Walk, conflicts_in};
-use ysymbols::Sym;
+use ysymbols::{Sym, let_go};
+
+/// For each symbol the numbers of the rules that have it on their left side, or in their body.
+struct Uses {
+    lefts: Vec<Vec<usize>>,
+    bodies: Vec<Vec<usize>>,
+}
+
+impl Drop for Uses {
+    // A call in each owner, which keeps their proofs short.
+    fn drop(self) {
+        let_go!(self: Uses { lefts, bodies });
+    }
+}
+
+/// Notes that a rule has a symbol, once.
+fn note(lists: &mut Vec<Vec<usize>>, symbol: Sym, number: usize) -> Made<()> {
+    if let Some(list) = lists.get_mut(symbol) {
+        if list.last().copied() != Some(number) {
+            list.push(number)?;
+        }
+    }
+    Ok(())
+}
+
+/// Writes numbers of rules after a word, where there are some.
+fn put_numbers(sheet: &mut Sheet, word: &str, numbers: Option<&Vec<usize>>) {
+    let Some(numbers) = numbers else {
+        return;
+    };
+    for (place, number) in numbers.iter().enumerate() {
+        sheet.put(if place == 0 { word } else { "" });
+        sheet.put(" ");
+        sheet.mark("", Mark::ToRule, *number);
+    }
+}
 
 /// Writes the number of a rule in a column of its own.
 pub fn put_number(sheet: &mut Sheet, mark: Mark, number: usize) {
@@ -191,23 +226,28 @@ impl Report<'_> {
         sheet.put(if any { "\n\n" } else { "" });
     }
 
-    /// Writes the numbers of the rules that have a symbol on their left side, or in their body, after
-    /// a word before the first one; and says whether there are any.
-    fn put_uses(&self, sheet: &mut Sheet, symbol: Sym, word: &str, is_left: bool) -> bool {
-        let (grammar, mut any) = (self.layout.grammar(), false);
+    /// For each symbol the numbers of the rules that have it.
+    fn uses(&self) -> Made<Uses> {
+        let (alloc, grammar) = (self.layout.alloc, self.layout.grammar());
+        let mut uses = Uses {
+            lefts: Vec::new(alloc),
+            bodies: Vec::new(alloc),
+        };
+        for _ in 0..grammar.symbols() {
+            uses.lefts.push(Vec::new(alloc))?;
+            uses.bodies.push(Vec::new(alloc))?;
+        }
         for rule in 0..grammar.rules() {
-            let has_it = match is_left {
-                true => left_of(grammar, rule) == Some(symbol),
-                false => body_of(grammar, rule).contains(&symbol),
-            };
-            if has_it && self.is_needed(rule) {
-                sheet.put(if any { "" } else { word });
-                sheet.put(" ");
-                sheet.mark("", Mark::ToRule, self.layout.rule(rule));
-                any = true;
+            if !self.is_needed(rule) {
+                continue;
+            }
+            let number = self.layout.rule(rule);
+            note(&mut uses.lefts, left_of(grammar, rule).unwrap_or(0), number)?;
+            for symbol in body_of(grammar, rule) {
+                note(&mut uses.bodies, *symbol, number)?;
             }
         }
-        any
+        Ok(uses)
     }
 
     /// Writes the name of a symbol with its tag and its number.
@@ -225,7 +265,7 @@ impl Report<'_> {
     }
 
     /// Writes the tokens by their numbers, each with the rules that have it.
-    pub fn put_tokens(&self, sheet: &mut Sheet) -> Made<()> {
+    fn put_tokens(&self, sheet: &mut Sheet, uses: &Uses) -> Made<()> {
         sheet.title("Terminals, with rules where they appear");
         let mut tokens = Vec::new(self.layout.alloc);
         let numbering = self.layout.numbering;
@@ -237,7 +277,7 @@ impl Report<'_> {
         tokens.sort()?;
         for (number, token) in &tokens {
             self.put_symbol(sheet, *token, *number);
-            self.put_uses(sheet, *token, "", false);
+            put_numbers(sheet, "", uses.bodies.get(*token));
             sheet.put("\n");
         }
         sheet.put("\n\n");
@@ -245,7 +285,7 @@ impl Report<'_> {
     }
 
     /// Writes the nonterminals, each with the rules that have it.
-    pub fn put_nonterminals(&self, sheet: &mut Sheet) {
+    fn put_nonterminals(&self, sheet: &mut Sheet, uses: &Uses) {
         sheet.title("Nonterminals, with rules where they appear");
         let mut number = self.layout.tokens_counted();
         for (place, symbol) in self.layout.nonterminals().iter().enumerate() {
@@ -255,12 +295,17 @@ impl Report<'_> {
             }
             self.put_symbol(sheet, symbol, number);
             number = number.saturating_add(1);
+            put_numbers(sheet, "\n        on left:", uses.lefts.get(symbol));
+            put_numbers(sheet, "\n        on right:", uses.bodies.get(symbol));
             sheet.put("\n");
-            for (word, is_left) in [("        on left:", true), ("        on right:", false)] {
-                if self.put_uses(sheet, symbol, word, is_left) {
-                    sheet.put("\n");
-                }
-            }
         }
+    }
+
+    /// Writes the symbols.
+    pub fn put_symbols(&self, sheet: &mut Sheet) -> Made<()> {
+        let uses = self.uses()?;
+        self.put_tokens(sheet, &uses)?;
+        self.put_nonterminals(sheet, &uses);
+        Ok(())
     }
 }
