@@ -10,6 +10,6 @@ u2: B | u { mid (); } B { last (); };
 e: A | dead C | e '+' e | e '^' e | '-' e %prec NEG | n;
 dead: dead D { x (); } B | '!' ;
 n : C | n2 ;
-n2: n2 D | n2 n3 "text" 'c' { y (); } A ;
-n3: n2 | n3 '\n' ;
+n2: n2 D | n2 n3 B { y (); } A ;
+n3: n2 | n3 C ;
 %%
