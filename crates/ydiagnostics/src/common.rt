@@ -7,7 +7,7 @@ use std::alloc::Global;
 use yexplain::lines::Lines;
 use yexplain::reads::Made;
 use yreports::causes::Causes;
-use ysymbols::{Grammar, let_go};
+use ysymbols::Grammar;
 
 /// A change that settles conflicts: these tokens get precedence lines, and a rule a name of its
 /// own.
@@ -72,19 +72,13 @@ impl CoveredSheet {
 }
 
 /// What many conflicts have in common.
+#[derive(Drop)]
 pub struct CommonSheet {
     /// How many conflicts there are.
     conflicts: usize,
     changes: Vec<ChangeSheet>,
     pairs: Vec<PairSheet>,
     covered: Vec<CoveredSheet>,
-}
-
-impl Drop for CommonSheet {
-    // A call in each owner, which keeps their proofs short.
-    fn drop(self) {
-        let_go!(self: CommonSheet { conflicts, changes, pairs, covered });
-    }
 }
 
 impl CommonSheet {
@@ -111,31 +105,46 @@ impl CommonSheet {
     }
 }
 
-/// The blocks of conflicts by the numbers of their first ones, and whether something is offered for
-/// each.
-fn offers_of(alloc: Global, sought: &Sought) -> Made<Vec<(usize, bool)>> {
+/// What conflicts have in common, but for changes that nothing offers. What was sought is that for
+/// all conflicts; where only some are shown, no change is told.
+pub fn common_sheet(
+    alloc: Global,
+    (grammar, lines): (&Grammar, &Lines),
+    causes: &mut Causes,
+    sought: Option<&Sought>,
+) -> Made<CommonSheet> {
     let mut offers = Vec::new(alloc);
-    for (place, block) in sought.blocks.list.iter().enumerate() {
-        if place < sought.answers.len() {
+    if let Some(sought) = sought {
+        for (place, block) in sought
+            .blocks
+            .list
+            .iter()
+            .take(sought.answers.len())
+            .enumerate()
+        {
             let has_hints = sought.offer(place, block).has_hints();
             offers.push((block.first.number, has_hints))?;
         }
     }
-    Ok(offers)
-}
-
-/// Adds changes and rules that settle conflicts.
-fn add_changes(
-    alloc: Global,
-    grammar: &Grammar,
-    causes: &Causes,
-    sheet: &mut CommonSheet,
-) -> Made<()> {
+    causes.keep_offered(alloc, (grammar, lines), &offers)?;
+    let mut sheet = CommonSheet {
+        conflicts: causes.all,
+        changes: Vec::new(alloc),
+        pairs: Vec::new(alloc),
+        covered: Vec::new(alloc),
+    };
     for change in &causes.changes {
         sheet.changes.push(ChangeSheet {
             tokens: names_of(alloc, grammar, &change.tokens)?,
             rule: change.rule,
             settles: change.settles,
+        })?;
+    }
+    for ((taken, rule), conflicts) in &causes.pairs {
+        sheet.pairs.push(PairSheet {
+            taken: *taken,
+            rule: *rule,
+            conflicts: *conflicts,
         })?;
     }
     for covered in &causes.covered {
@@ -145,35 +154,5 @@ fn add_changes(
             settles: covered.settles,
         })?;
     }
-    Ok(())
-}
-
-/// What conflicts have in common, but for changes that nothing offers. What was sought is that for
-/// all conflicts; where only some are shown, no change is told.
-pub fn common_sheet(
-    alloc: Global,
-    (grammar, lines): (&Grammar, &Lines),
-    causes: &mut Causes,
-    sought: Option<&Sought>,
-) -> Made<CommonSheet> {
-    let offers = match sought {
-        Some(sought) => offers_of(alloc, sought)?,
-        None => Vec::new(alloc),
-    };
-    causes.keep_offered(alloc, (grammar, lines), &offers)?;
-    let mut sheet = CommonSheet {
-        conflicts: causes.all,
-        changes: Vec::new(alloc),
-        pairs: Vec::new(alloc),
-        covered: Vec::new(alloc),
-    };
-    for ((taken, rule), conflicts) in &causes.pairs {
-        sheet.pairs.push(PairSheet {
-            taken: *taken,
-            rule: *rule,
-            conflicts: *conflicts,
-        })?;
-    }
-    add_changes(alloc, grammar, causes, &mut sheet)?;
     Ok(sheet)
 }
