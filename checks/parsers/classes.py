@@ -7,14 +7,16 @@ at random (40), the parser in C++ makes the steps of the one in C, under the def
 bison or of the tables alone, with places or without. Both are compiled with sanitizers, the one in
 C++ without a warning. The calculator of examples/calculator-cc is built as C++11 and C++17 by each
 compiler that is there, without a warning, and answers as it should. Where bison and its examples
-are there, those in C++, which have values of several types, and those into which tokens are pushed
-are built by bison and by ycc, unchanged, and say the same. With `--few` each 64th grammar of
-scenarios is taken, and of examples the calculator, built in one way. The last line is `N passed, M
-failed`.
+are there, with xsltproc, by which bison writes pages, those in C++, which have values of several
+types, and those into which tokens are pushed are built by their own makefiles, unchanged, with
+bison and with ycc: they say the same, and have the same reports and graphs beside them. With
+`--few` each 64th grammar of scenarios is taken, and of examples the calculator, built in one way.
+The last line is `N passed, M failed`.
 """
 import itertools
 import os
 import random
+import re
 import shutil
 import tempfile
 import zlib
@@ -44,13 +46,11 @@ LONGEST = 100_000
 READ = "1 + 2 * 3", "a := 2\n(one + two * a) / a", "1 + * 2", "(1", "1 # 2", "", "9999999999"
 SUMS = b"1 + 2 * 3\n(1 + 2) * 3\n1 + * 2\n-4 ^ 2\n(1\n1 / 0\n1 /\n"
 TYPED = b"1 + 2 * 3\na = 256\nsqrt (a)\n1 + * 2\n(1 + \n)\n1 2\n# it\n0 / 0\nsin (\nquit\n"
-# Each of these: its grammar, what is linked with it, what it reads.
-PUSHED = {
-    "pushcalc": ("calc.y", [], SUMS),
-    "bistromathic": ("parse.y", ["-lreadline", "-lm"], TYPED),
-}
-# What bistromathic takes, as its makefile says.
-TRANSLATED = ["-DENABLE_NLS", '-DBISON_LOCALEDIR="/usr/share/locale"']
+# Each of these: its program, and what it reads.
+PUSHED = {"pushcalc": ("calc", SUMS), "bistromathic": ("bistromathic", TYPED)}
+# What is compared of what stands beside a parser; the first line of a graph names its maker.
+BESIDE = "*.output", "*.gv"
+MAKER = re.compile(rb"\A(?://.*\n)+")
 READLINE = Path("/usr/include/readline/readline.h")
 
 # Each of so many grammars of scenarios is taken, and where few are.
@@ -196,39 +196,39 @@ def compare_calculator(ycc, options, called, language):
             raise Differs(f"{called} {language} {options}")
 
 
+def made(folder, maker, source, program):
+    """An example of bison, built by its own makefile; and the reports and graphs beside it."""
+    shutil.copytree(PEERS / source, folder, dirs_exist_ok=True)
+    ran(["make", "-s", f"BISON={' '.join(maker)}", program], maker[0], folder=folder)
+    beside = [it for form in BESIDE for it in sorted(Path(folder).glob(form))]
+    if not list(Path(folder).glob("*.html")):
+        raise Differs(f"{source}: there is no page")
+    return [(it.name, MAKER.sub(b"", it.read_bytes())) for it in beside]
+
+
 def one_file(folder, maker, name):
     """What an example of one file says."""
-    ran([*maker, "-o", f"{folder}/{name}.cc", str(PEERS / f"c++/{name}.yy")], maker[0])
-    ran(["g++", "-O0", "-o", f"{folder}/{name}", f"{folder}/{name}.cc"], "the compiler")
-    it = running.ran([f"{folder}/{name}"])
-    return it.returncode, it.stdout, it.stderr
+    beside = made(folder, maker, "c++", name)
+    it = running.ran([f"./{name}"], folder)
+    return it.returncode, it.stdout, it.stderr, beside
 
 
-def calculators(folder, maker, _):
+def calculators(folder, maker, name):
     """What bison's calculator says of some sums."""
-    for file in (PEERS / "c++/calc++").iterdir():
-        shutil.copy(file, folder)
-    ran([*maker, "-o", "parser.cc", "parser.yy"], maker[0], folder=folder)
-    ran(["flex", "-o", "scanner.cc", "scanner.ll"], "flex", folder=folder)
-    files = ["parser.cc", "scanner.cc", "driver.cc", "calc++.cc"]
-    ran(["g++", "-O0", "-o", "calc", *files], "the compiler", folder=folder)
-    said = []
+    said = [made(folder, maker, f"c++/{name}", name)]
     for text in READ:
         Path(folder, "in").write_text(text)
-        it = running.ran(["./calc", "in"], folder)
+        it = running.ran([f"./{name}", "in"], folder)
         said.append((text, it.returncode, it.stdout, it.stderr))
     return said
 
 
 def pushed(folder, maker, name):
     """What an example into which tokens are pushed says of some lines."""
-    file, libraries, lines = PUSHED[name]
-    parser = file.replace(".y", ".c")
-    ran([*maker, "-d", "-o", parser, str(PEERS / "c" / name / file)], maker[0], folder=folder)
-    words = [compiler(), "-w", *TRANSLATED, "-o", name, parser, *libraries]
-    ran(words, "the compiler", folder=folder)
-    it = running.ran([f"./{name}"], folder, lines)
-    return it.returncode, it.stdout, it.stderr
+    program, lines = PUSHED[name]
+    beside = made(folder, maker, f"c/{name}", program)
+    it = running.ran([f"./{program}"], folder, lines)
+    return it.returncode, it.stdout, it.stderr, beside
 
 
 def compare_example(ycc, builder, name):
@@ -247,7 +247,7 @@ def examples(ycc):
         for language in LANGUAGES:
             for options in ([], ["-t"]):
                 yield compare_calculator, ycc, options, called, language
-    if shutil.which("bison") and shutil.which("flex") and PEERS.is_dir():
+    if all(map(shutil.which, ("bison", "flex", "make", "xsltproc"))) and PEERS.is_dir():
         for name in CLASSES:
             yield compare_example, ycc, calculators if name == "calc++" else one_file, name
         for name in PUSHED:
