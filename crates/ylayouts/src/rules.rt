@@ -168,11 +168,11 @@ impl Report<'_> {
 
     /// Writes the rules that no sentence needs.
     fn put_spare_rules(&self, sheet: &mut Sheet) {
-        let mut number = 0usize;
+        let (spares, mut number) = (self.spares, 0usize);
         for rule in 0..self.layout.grammar().rules() {
             number = number.saturating_add(usize::from(self.is_needed(rule)));
         }
-        for (place, rule) in self.spares.rules.iter().enumerate() {
+        for (place, rule) in spares.rules.iter().enumerate() {
             if place > 0 && !rule.goes_on {
                 sheet.put("\n");
             }
