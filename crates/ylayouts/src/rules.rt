@@ -168,8 +168,8 @@ impl Report<'_> {
 
     /// Writes the rules that no sentence needs.
     fn put_spare_rules(&self, sheet: &mut Sheet) {
-        let (spares, mut number) = (self.spares, 0usize);
-        for rule in 0..self.layout.grammar().rules() {
+        let (spares, layout, mut number) = (self.spares, self.layout, 0usize);
+        for rule in 0..layout.grammar().rules() {
             number = number.saturating_add(usize::from(self.is_needed(rule)));
         }
         for (place, rule) in spares.rules.iter().enumerate() {
@@ -183,7 +183,7 @@ impl Report<'_> {
                 continue;
             };
             if rule.goes_on {
-                sheet.spaces(left.width(self.layout.manner));
+                sheet.spaces(left.width(layout.manner));
                 sheet.put("|");
             } else {
                 self.put_part(sheet, *left);
@@ -195,7 +195,7 @@ impl Report<'_> {
             }
             if body.is_empty() {
                 sheet.put(" ");
-                sheet.put(self.layout.manner.signs.empty.0);
+                sheet.put(layout.manner.signs.empty.0);
             }
             sheet.put("\n");
         }
