@@ -176,11 +176,16 @@ fn add_shown<'a>(
     texts: &mut Vec<Text<'a>>,
 ) -> Result<(), Ending> {
     let (skeleton, alloc) = (by.0, rt.alloc());
-    let mut has_report = given.verbose || skeleton.parts.options.verbose;
-    if has_report && !skeleton.style.is_bison() {
+    let (parts, style) = (skeleton.parts, skeleton.style);
+    let mut has_report = given.verbose || parts.options.verbose;
+    if has_report && !style.is_bison() {
         let (path, bytes) = (names.report.as_str(), text_of(alloc, tables, true)?);
         texts.push(Text { path, bytes })?;
         has_report = false;
+    }
+    let has_page = given.page.is_some();
+    if !has_report && !has_page && given.graph.is_none() && !given.old_graph {
+        return Ok(());
     }
     let called = called_by(alloc, skeleton, true)?;
     let layout = Layout {
@@ -195,7 +200,6 @@ fn add_shown<'a>(
         numbering: skeleton.numbering,
     };
     add_graphs(given, &layout, skeleton, names, texts)?;
-    let has_page = given.page.is_some();
     if has_report || has_page {
         let wanted = (has_report, has_page);
         add_reports(wanted, given.things, &layout, by, names, texts)?;

@@ -227,15 +227,17 @@ pub fn names_of(
     }
     let (report, table) = (given.report.unwrap_or(""), given.table.unwrap_or(""));
     let (graph, page) = (given.graph.unwrap_or(""), given.page.unwrap_or(""));
-    for (path, name) in [
-        (graph, &mut names.graph),
-        (page, &mut names.page),
-        (report, &mut names.report),
-        (table, &mut names.table),
-    ] {
-        if !path.is_empty() {
-            *name = String::from_str(alloc, path)?;
-        }
+    if !graph.is_empty() {
+        names.graph = String::from_str(alloc, graph)?;
+    }
+    if !page.is_empty() {
+        names.page = String::from_str(alloc, page)?;
+    }
+    if !report.is_empty() {
+        names.report = String::from_str(alloc, report)?;
+    }
+    if !table.is_empty() {
+        names.table = String::from_str(alloc, table)?;
     }
     if options.is_cxx() {
         let has_header = given.define || options.header != Header::No;
