@@ -21,7 +21,7 @@ use yfindings::levels::givers_of;
 use yfindings::walk::Walk;
 use yforeign::groups::groups_of;
 use ylayouts::layout::Layout;
-use ylayouts::manner::Manner;
+use ylayouts::manner::{ASCII, Manner};
 use ylayouts::report::{Report, Things};
 use ylayouts::spare::{Spares, spares_of};
 use yparts::options::{Header, Options};
@@ -105,37 +105,37 @@ fn texts_of<'a>(
     Ok(texts)
 }
 
-/// Adds the graphs that are wanted of a grammar file to texts.
-fn add_graphs<'a>(
-    given: &Given<'_>,
-    layout: &Layout<'_>,
-    skeleton: &Skeleton<'_>,
+/// Adds the graph as byacc draws it.
+fn add_old_graph<'a, 'x>(
+    alloc: Global,
+    tables: &'x Tables,
+    skeleton: &'x Skeleton<'x>,
     names: &'a Names,
     texts: &mut Vec<Text<'a>>,
 ) -> Result<(), Ending> {
-    if given.graph.is_some() {
-        let (path, bytes) = (names.graph.as_str(), layout.graph(skeleton.path)?);
-        texts.push(Text { path, bytes })?;
-    }
-    if given.old_graph {
-        let called = called_by(layout.alloc, skeleton, false)?;
-        let manner = Manner {
+    let called = called_by(alloc, skeleton, false)?;
+    let layout = Layout {
+        alloc,
+        tables,
+        manner: Manner {
             names: &called,
-            signs: layout.manner.signs,
-        };
-        let layout = Layout { manner, ..*layout };
-        let (path, bytes) = (names.old_graph.as_str(), layout.old_graph(&names.stem)?);
-        texts.push(Text { path, bytes })?;
-    }
+            signs: ASCII,
+        },
+        code: skeleton.code,
+        states: skeleton.states,
+        numbering: skeleton.numbering,
+    };
+    let (path, bytes) = (names.old_graph.as_str(), layout.old_graph(&names.stem)?);
+    texts.push(Text { path, bytes })?;
     Ok(())
 }
 
 /// Adds reports as bison writes them: a text, a page.
-fn add_reports<'a>(
+fn add_reports<'a, 'x>(
     (has_text, has_page): (bool, bool),
     things: Things,
-    layout: &Layout<'_>,
-    (skeleton, seen): (&Skeleton<'_>, Option<&Seen<'_>>),
+    layout: &'x Layout<'x>,
+    (skeleton, seen): (&'x Skeleton<'x>, Option<&'x Seen<'x>>),
     names: &'a Names,
     texts: &mut Vec<Text<'a>>,
 ) -> Result<(), Ending> {
@@ -167,11 +167,11 @@ fn add_reports<'a>(
 
 /// Adds what is shown of the automaton to texts. Where the order isn't that of bison, the report is
 /// that of `yacc`.
-fn add_shown<'a>(
+fn add_shown<'a, 'x>(
     rt: &HostRuntime,
     given: &Given<'_>,
-    tables: &Tables,
-    by: (&Skeleton<'_>, Option<&Seen<'_>>),
+    tables: &'x Tables,
+    by: (&'x Skeleton<'x>, Option<&'x Seen<'x>>),
     names: &'a Names,
     texts: &mut Vec<Text<'a>>,
 ) -> Result<(), Ending> {
@@ -183,8 +183,11 @@ fn add_shown<'a>(
         texts.push(Text { path, bytes })?;
         has_report = false;
     }
-    let has_page = given.page.is_some();
-    if !has_report && !has_page && given.graph.is_none() && !given.old_graph {
+    if given.old_graph {
+        add_old_graph(alloc, tables, skeleton, names, texts)?;
+    }
+    let (has_page, has_graph) = (given.page.is_some(), given.graph.is_some());
+    if !has_report && !has_page && !has_graph {
         return Ok(());
     }
     let called = called_by(alloc, skeleton, true)?;
@@ -199,7 +202,10 @@ fn add_shown<'a>(
         states: skeleton.states,
         numbering: skeleton.numbering,
     };
-    add_graphs(given, &layout, skeleton, names, texts)?;
+    if has_graph {
+        let (path, bytes) = (names.graph.as_str(), layout.graph(skeleton.path)?);
+        texts.push(Text { path, bytes })?;
+    }
     if has_report || has_page {
         let wanted = (has_report, has_page);
         add_reports(wanted, given.things, &layout, by, names, texts)?;
@@ -255,11 +261,11 @@ fn begin(
 }
 
 /// Makes all texts of a file that may be looked at, and then writes their files.
-fn make(
+fn make<'x>(
     rt: &HostRuntime,
     given: &Given<'_>,
-    file: &File,
-    (read, seen): (&Reading<'_>, Option<&Seen<'_>>),
+    file: &'x File,
+    (read, seen): (&'x Reading<'_>, Option<&'x Seen<'x>>),
     wishes: Wishes,
 ) -> Result<(), Ending> {
     let (alloc, path) = (rt.alloc(), file.path.as_str());
@@ -297,11 +303,11 @@ fn make(
 }
 
 /// Makes all texts, and then writes their files.
-pub fn write_files(
+pub fn write_files<'x>(
     rt: &HostRuntime,
     given: &Given<'_>,
-    file: &File,
-    read: &Reading<'_>,
+    file: &'x File,
+    read: &'x Reading<'_>,
 ) -> Result<(), Ending> {
     let (alloc, wishes) = (rt.alloc(), wishes_of(given, &read.parts.options));
     let is_looked_at = is_sought((given.kinds, wishes.mode == Mode::Bison));
@@ -309,17 +315,18 @@ pub fn write_files(
         None if is_looked_at => import_of(rt, file)?,
         _ => None,
     };
-    let (Some(imported), true) = (read.imported.as_ref().or(own.as_ref()), is_looked_at) else {
-        return make(rt, given, file, (read, None), wishes);
-    };
-    let groups = groups_of(alloc, &file.bytes, &imported.lexemes)?;
-    let seen = Seen {
-        alloc,
-        source: &file.bytes,
-        imported,
-        groups: &groups,
-        tables: &read.tables,
-        parts: &read.parts,
-    };
-    make(rt, given, file, (read, Some(&seen)), wishes)
+    let imported = read.imported.as_ref().or(own.as_ref());
+    if let (Some(imported), true) = (imported, is_looked_at) {
+        let groups = groups_of(alloc, &file.bytes, &imported.lexemes)?;
+        let seen = Seen {
+            alloc,
+            source: &file.bytes,
+            imported,
+            groups: &groups,
+            tables: &read.tables,
+            parts: &read.parts,
+        };
+        return make(rt, given, file, (read, Some(&seen)), wishes);
+    }
+    make(rt, given, file, (read, None), wishes)
 }
