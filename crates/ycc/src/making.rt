@@ -8,10 +8,10 @@ use crate::messages::speech_of;
 use crate::names::{Names, Text, names_of};
 use crate::policy::policy_of;
 use crate::reading::Reading;
-use crate::warnings::{import_of, is_sought, tell_found};
+use crate::warnings::{import_of, tell_found};
 use crate::words::Given;
 use std::alloc::Global;
-use ycode::code_of;
+use ycode::{Code, code_of};
 use yfiles::output::Output;
 use yfiles::same::clash_of;
 use yfiles::writing::write_over;
@@ -97,6 +97,12 @@ fn texts_of<'a>(
     } else {
         add_plain(alloc, skeleton, has_header, names, &defaults, &mut texts)?;
     }
+    let is_wanted = given.verbose || options.verbose;
+    if is_wanted && !skeleton.style.is_bison() {
+        let path = names.report.as_str();
+        let bytes = text_of(alloc, tables, true)?;
+        texts.push(Text { path, bytes })?;
+    }
     if given.table.is_some() {
         let path = names.table.as_str();
         let bytes = text_of(alloc, tables, false)?;
@@ -105,37 +111,51 @@ fn texts_of<'a>(
     Ok(texts)
 }
 
-/// Adds the graph as byacc draws it.
-fn add_old_graph<'a, 'x>(
+/// An automaton that is laid out with these names and signs.
+fn layout_of<'x>(
     alloc: Global,
     tables: &'x Tables,
-    skeleton: &'x Skeleton<'x>,
+    manner: Manner<'x>,
+    (code, states): (&'x Code, &'x [usize]),
+    numbering: &'x Numbering,
+) -> Layout<'x> {
+    Layout {
+        alloc,
+        tables,
+        manner,
+        code,
+        states,
+        numbering,
+    }
+}
+
+/// Adds the graph as byacc draws it.
+fn add_old_graph<'a>(
+    alloc: Global,
+    tables: &Tables,
+    skeleton: &Skeleton<'_>,
     names: &'a Names,
     texts: &mut Vec<Text<'a>>,
 ) -> Result<(), Ending> {
     let called = called_by(alloc, skeleton, false)?;
-    let layout = Layout {
-        alloc,
-        tables,
-        manner: Manner {
-            names: &called,
-            signs: ASCII,
-        },
-        code: skeleton.code,
-        states: skeleton.states,
-        numbering: skeleton.numbering,
+    let manner = Manner {
+        names: &called,
+        signs: ASCII,
     };
+    let arrays = (skeleton.code, skeleton.states);
+    let layout = layout_of(alloc, tables, manner, arrays, skeleton.numbering);
     let (path, bytes) = (names.old_graph.as_str(), layout.old_graph(&names.stem)?);
     texts.push(Text { path, bytes })?;
     Ok(())
 }
 
 /// Adds reports as bison writes them: a text, a page.
-fn add_reports<'a, 'x>(
+fn add_reports<'a>(
     (has_text, has_page): (bool, bool),
     things: Things,
-    layout: &'x Layout<'x>,
-    (skeleton, seen): (&'x Skeleton<'x>, Option<&'x Seen<'x>>),
+    layout: &Layout<'_>,
+    skeleton: &Skeleton<'_>,
+    seen: Option<&Seen<'_>>,
     names: &'a Names,
     texts: &mut Vec<Text<'a>>,
 ) -> Result<(), Ending> {
@@ -165,52 +185,90 @@ fn add_reports<'a, 'x>(
     Ok(())
 }
 
-/// Adds what is shown of the automaton to texts. Where the order isn't that of bison, the report is
-/// that of `yacc`.
-fn add_shown<'a, 'x>(
+/// Adds the graph and the reports as bison writes them.
+fn add_shown<'a>(
     rt: &HostRuntime,
     given: &Given<'_>,
-    tables: &'x Tables,
-    by: (&'x Skeleton<'x>, Option<&'x Seen<'x>>),
+    tables: &Tables,
+    skeleton: &Skeleton<'_>,
+    seen: Option<&Seen<'_>>,
     names: &'a Names,
     texts: &mut Vec<Text<'a>>,
 ) -> Result<(), Ending> {
-    let (skeleton, alloc) = (by.0, rt.alloc());
-    let (parts, style) = (skeleton.parts, skeleton.style);
-    let mut has_report = given.verbose || parts.options.verbose;
-    if has_report && !style.is_bison() {
-        let (path, bytes) = (names.report.as_str(), text_of(alloc, tables, true)?);
-        texts.push(Text { path, bytes })?;
-        has_report = false;
-    }
-    if given.old_graph {
-        add_old_graph(alloc, tables, skeleton, names, texts)?;
-    }
-    let (has_page, has_graph) = (given.page.is_some(), given.graph.is_some());
-    if !has_report && !has_page && !has_graph {
-        return Ok(());
-    }
+    let alloc = rt.alloc();
     let called = called_by(alloc, skeleton, true)?;
-    let layout = Layout {
-        alloc,
-        tables,
-        manner: Manner {
-            names: &called,
-            signs: signs_of(rt),
-        },
-        code: skeleton.code,
-        states: skeleton.states,
-        numbering: skeleton.numbering,
+    let manner = Manner {
+        names: &called,
+        signs: signs_of(rt),
     };
-    if has_graph {
+    let arrays = (skeleton.code, skeleton.states);
+    let layout = layout_of(alloc, tables, manner, arrays, skeleton.numbering);
+    if given.graph.is_some() {
         let (path, bytes) = (names.graph.as_str(), layout.graph(skeleton.path)?);
         texts.push(Text { path, bytes })?;
     }
-    if has_report || has_page {
-        let wanted = (has_report, has_page);
-        add_reports(wanted, given.things, &layout, by, names, texts)?;
+    let wanted = (has_report(given, skeleton), given.page.is_some());
+    if wanted.0 || wanted.1 {
+        add_reports(wanted, given.things, &layout, skeleton, seen, names, texts)?;
     }
     Ok(())
+}
+
+/// Adds them for a file that can be looked at.
+fn add_seen<'a, 's>(
+    rt: &HostRuntime,
+    given: &Given<'_>,
+    tables: &Tables,
+    skeleton: &Skeleton<'_>,
+    seen: &'s Seen<'s>,
+    names: &'a Names,
+    texts: &mut Vec<Text<'a>>,
+) -> Result<(), Ending> {
+    add_shown(rt, given, tables, skeleton, Some(seen), names, texts)
+}
+
+/// Whether a report is wanted, and it is bison's.
+fn has_report(given: &Given<'_>, skeleton: &Skeleton<'_>) -> bool {
+    let (parts, style) = (skeleton.parts, skeleton.style);
+    (given.verbose || parts.options.verbose) && style.is_bison()
+}
+
+/// Adds what is shown of the automaton of a file to texts.
+fn add_all_shown<'a>(
+    rt: &HostRuntime,
+    given: &Given<'_>,
+    file: &File,
+    read: &Reading<'_>,
+    skeleton: &Skeleton<'_>,
+    names: &'a Names,
+    texts: &mut Vec<Text<'a>>,
+) -> Result<(), Ending> {
+    let (alloc, tables) = (rt.alloc(), &read.tables);
+    if given.old_graph {
+        add_old_graph(alloc, tables, skeleton, names, texts)?;
+    }
+    let is_told = has_report(given, skeleton) || given.page.is_some();
+    if !is_told && given.graph.is_none() {
+        return Ok(());
+    }
+    let own = match &read.imported {
+        None if is_told => import_of(rt, file)?,
+        _ => None,
+    };
+    let imported = read.imported.as_ref().or(own.as_ref());
+    if let (Some(imported), true) = (imported, is_told) {
+        let groups = groups_of(alloc, &file.bytes, &imported.lexemes)?;
+        let seen = Seen {
+            alloc,
+            source: &file.bytes,
+            imported,
+            groups: &groups,
+            tables: &read.tables,
+            parts: &read.parts,
+        };
+        return add_seen(rt, given, tables, skeleton, &seen, names, texts);
+    }
+    add_shown(rt, given, tables, skeleton, None, names, texts)
 }
 
 /// Writes texts to their files, unless one would be written over another that is read or written:
@@ -260,16 +318,16 @@ fn begin(
     Ok(())
 }
 
-/// Makes all texts of a file that may be looked at, and then writes their files.
-fn make<'x>(
+/// Makes all texts, and then writes their files.
+pub fn write_files<'x>(
     rt: &HostRuntime,
     given: &Given<'_>,
     file: &'x File,
-    (read, seen): (&'x Reading<'_>, Option<&'x Seen<'x>>),
-    wishes: Wishes,
+    read: &'x Reading<'_>,
 ) -> Result<(), Ending> {
     let (alloc, path) = (rt.alloc(), file.path.as_str());
     let (tables, parts) = (&read.tables, &read.parts);
+    let wishes = wishes_of(given, &parts.options);
     let is_bison = wishes.mode == Mode::Bison;
     begin(rt, given, file, (parts.options.is_cxx(), is_bison))?;
     let names = names_of(alloc, given, &parts.options, is_bison)?;
@@ -290,9 +348,9 @@ fn make<'x>(
         states: &states,
         speech: speech.as_ref(),
     };
-    let is_told = tell_found(rt, (given.kinds, is_bison), file, read, &skeleton, seen)?;
+    let is_told = tell_found(rt, (given.kinds, is_bison), file, read, &skeleton)?;
     let mut texts = texts_of(alloc, given, tables, skeleton, &names)?;
-    add_shown(rt, given, tables, (&skeleton, seen), &names, &mut texts)?;
+    add_all_shown(rt, given, file, read, &skeleton, &names, &mut texts)?;
     if !given.dry {
         write_all(rt, given, &texts)?;
     }
@@ -300,33 +358,4 @@ fn make<'x>(
         true => Ok(()),
         false => Err(Ending::Untold),
     }
-}
-
-/// Makes all texts, and then writes their files.
-pub fn write_files<'x>(
-    rt: &HostRuntime,
-    given: &Given<'_>,
-    file: &'x File,
-    read: &'x Reading<'_>,
-) -> Result<(), Ending> {
-    let (alloc, wishes) = (rt.alloc(), wishes_of(given, &read.parts.options));
-    let is_looked_at = is_sought((given.kinds, wishes.mode == Mode::Bison));
-    let own = match &read.imported {
-        None if is_looked_at => import_of(rt, file)?,
-        _ => None,
-    };
-    let imported = read.imported.as_ref().or(own.as_ref());
-    if let (Some(imported), true) = (imported, is_looked_at) {
-        let groups = groups_of(alloc, &file.bytes, &imported.lexemes)?;
-        let seen = Seen {
-            alloc,
-            source: &file.bytes,
-            imported,
-            groups: &groups,
-            tables: &read.tables,
-            parts: &read.parts,
-        };
-        return make(rt, given, file, (read, Some(&seen)), wishes);
-    }
-    make(rt, given, file, (read, None), wishes)
 }

@@ -19,6 +19,7 @@ use yfindings::levels::find_levels;
 use yfindings::useless::find_useless;
 use yfindings::values::find_in_bodies;
 use yfindings::walk::{Conflicts, Walk};
+use yforeign::groups::groups_of;
 use yimport::import::{Imported, import};
 use yimport::refusal::Trouble;
 use yimport::symbols::Expected;
@@ -229,11 +230,6 @@ fn place_of(finding: &Finding<'_>) -> usize {
     finding.at.map_or(0, |at| at.saturating_add(1))
 }
 
-/// Whether more is to be found in a file than its conflicts: it can be looked at in its import.
-pub fn is_sought((kinds, is_bison): (Kinds, bool)) -> bool {
-    is_bison || kinds.ask_for_more()
-}
-
 /// Finds what is to be shown of a file, and says it in the order of the file, conflicts at the end:
 /// whether all was written. Where there is an error among it, the file is refused.
 pub fn tell_found(
@@ -242,13 +238,27 @@ pub fn tell_found(
     file: &File,
     read: &Reading<'_>,
     skeleton: &Skeleton<'_>,
-    seen: Option<&Seen<'_>>,
 ) -> Result<bool, Ending> {
-    let wanted = Wanted { kinds, is_bison };
-    match seen {
-        Some(seen) => end(rt, file, read, skeleton, wanted, find_all(seen, wanted)?),
-        None => end(rt, file, read, skeleton, wanted, Vec::new(rt.alloc())),
+    let (alloc, wanted) = (rt.alloc(), Wanted { kinds, is_bison });
+    let is_sought = is_bison || kinds.ask_for_more();
+    let own = match &read.imported {
+        None if is_sought => import_of(rt, file)?,
+        _ => None,
+    };
+    let imported = read.imported.as_ref().or(own.as_ref());
+    if let (Some(imported), true) = (imported, is_sought) {
+        let groups = groups_of(alloc, &file.bytes, &imported.lexemes)?;
+        let seen = Seen {
+            alloc,
+            source: &file.bytes,
+            imported,
+            groups: &groups,
+            tables: &read.tables,
+            parts: &read.parts,
+        };
+        return end(rt, file, read, skeleton, wanted, find_all(&seen, wanted)?);
     }
+    end(rt, file, read, skeleton, wanted, Vec::new(alloc))
 }
 
 /// What is wrong with values in code, and what no parser has, in the order of the file.
