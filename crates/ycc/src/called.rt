@@ -42,7 +42,14 @@ fn put_called(out: &mut Output, skeleton: &Skeleton<'_>, symbol: Sym, is_bison: 
             out.put(if has_value { "@" } else { "$@" });
             out.put_bytes(number);
         }
-        (None, _) => out.put_bytes(escape_in(name).unwrap_or(name)),
+        (None, _) => {
+            let end = if is_bison && symbol == 0 {
+                skeleton.own_end()
+            } else {
+                None
+            };
+            out.put_bytes(end.or(escape_in(name)).unwrap_or(name));
+        }
     }
 }
 

@@ -44,18 +44,14 @@ fn links_from(
             let Some(left) = left_of(grammar, rule) else {
                 continue;
             };
-            let is_reached = left == from || is_some(&reached, left);
-            if rule != without && is_reached && to != from && !is_some(&reached, to) {
+            let reaches = |symbol: Sym| reached.get(symbol).copied().flatten().is_some();
+            let is_new = to != from && !reaches(to);
+            if rule != without && is_new && (left == from || reaches(left)) {
                 set(&mut reached, to, Some(rule));
             }
         }
     }
     Ok(reached)
-}
-
-/// Whether a symbol is reached.
-fn is_some(reached: &[Option<usize>], symbol: Sym) -> bool {
-    reached.get(symbol).copied().flatten().is_some()
 }
 
 /// The rules by which a rule's left side derives another rule's left side without it, and that

@@ -180,15 +180,6 @@ impl Skeleton<'_> {
         self.put_kept(out);
     }
 
-    /// What the place before the first token is called.
-    fn first_place(&self) -> &'static str {
-        match (self.style.is_pushed(), self.style.is_pure()) {
-            (false, _) => "yylloc",
-            (true, false) => "yypushed_loc",
-            (true, true) => "(*yypushed_loc)",
-        }
-    }
-
     /// Writes the machine with the actions.
     fn put_machine(&self, out: &mut Output) {
         let style = self.style;
@@ -209,9 +200,15 @@ impl Skeleton<'_> {
         }
         self.put_push_calls(out);
         style.put_fixed(out, BEGIN);
+        // what the place before the first token is called
+        let first_place = match (style.is_pushed(), style.is_pure()) {
+            (false, _) => "yylloc",
+            (true, false) => "yypushed_loc",
+            (true, true) => "(*yypushed_loc)",
+        };
         for block in &self.parts.blocks {
             if block.target == Target::Initial {
-                let scene = self.value_scene(None, ("yylval", self.first_place()));
+                let scene = self.value_scene(None, ("yylval", first_place));
                 self.put_code(out, block.piece, &scene);
             }
         }

@@ -25,6 +25,9 @@ pub const READING: &str = r##"
    (n) = yygcheck[n] == (state) ? yygvalue[n] : yytarget[left])
 "##;
 
+/// What bison calls an end that a file doesn't name.
+const END_LABEL: &[u8] = b"\"end of file\"";
+
 /// Whether an array of names has them as in the file, or without quotes.
 #[derive(Clone, Copy, PartialEq, Eq)]
 pub enum Spelled {
@@ -52,7 +55,7 @@ impl Skeleton<'_> {
         let label = match self.parts.looks_of(symbol).label {
             Some([b'_', b'(', text @ .., b')']) => Some(text.trim_ascii()),
             None if spelled == Spelled::Called => usual_call(self.grammar, symbol),
-            None if symbol == 0 && self.style.is_bison() => Some(self.end_label()),
+            None if symbol == 0 && self.style.is_bison() => self.own_end().or(Some(END_LABEL)),
             label => label,
         };
         out.put("  \"");
@@ -77,17 +80,16 @@ impl Skeleton<'_> {
         out.put("\",\n");
     }
 
-    /// What bison calls an end for which the file has no string: its name, if it was given there.
-    fn end_label(&self) -> &[u8] {
+    /// What bison calls an end for which the file has no string, where its number is given there:
+    /// its first name.
+    pub fn own_end(&self) -> Option<&[u8]> {
         for given in &self.parts.numbers {
             if given.token == 0 {
-                return match self.parts.ends.first() {
-                    Some(end) => *end,
-                    None => b"$end",
-                };
+                let end = self.parts.ends.first().copied();
+                return end.or(Some(b"$end"));
             }
         }
-        b"\"end of file\""
+        None
     }
 
     /// Writes the array of what symbols are called: tokens, what is no token, and nonterminals.
