@@ -51,12 +51,13 @@ pub fn wrong_line(
     number: usize,
     why: Why,
 ) -> io::Result<Diagnostic> {
-    let before = source
-        .split(|byte| *byte == b'\n')
-        .take(number.saturating_sub(1));
-    let at = before.fold(0, |sum: usize, line| {
-        sum.saturating_add(line.len()).saturating_add(1)
-    });
+    let (mut at, mut lines) = (0usize, 1usize);
+    for (place, byte) in source.iter().enumerate() {
+        if *byte == b'\n' && lines < number {
+            lines = lines.saturating_add(1);
+            at = place.saturating_add(1);
+        }
+    }
     let mut one = Diagnostic::at(alloc, Place { path, source, at }, false)?;
     why.say(&mut one)?;
     one.note(alloc, why.mend())?;

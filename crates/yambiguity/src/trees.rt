@@ -123,8 +123,11 @@ impl Trees {
                 if !self.have_equal_roots(one, other) {
                     return Ok(false);
                 }
-                for pair in self.children(one).iter().zip(self.children(other)) {
-                    open.push((*pair.0, *pair.1))?;
+                let theirs = self.children(other);
+                for (place, child) in self.children(one).iter().enumerate() {
+                    if let Some(their) = theirs.get(place).copied() {
+                        open.push((*child, their))?;
+                    }
                 }
             }
         }
@@ -171,9 +174,11 @@ impl Trees {
             }
             let (mut found, mut count, mut before) = (least, 0usize, leaves);
             let mut at = leaves;
-            for (one, other) in self.children(least.0).iter().zip(self.children(least.1)) {
-                if !self.are_equal(alloc, *one, *other)? {
-                    found = (*one, *other);
+            let others = self.children(least.1);
+            for (place, one) in self.children(least.0).iter().enumerate() {
+                let other = others.get(place).copied().unwrap_or(*one);
+                if !self.are_equal(alloc, *one, other)? {
+                    found = (*one, other);
                     before = at;
                     count = count.saturating_add(1);
                 }

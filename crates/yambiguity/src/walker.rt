@@ -65,9 +65,12 @@ impl Walk {
         for child in children.iter().rev() {
             self.open.push(Visit::Open(*child))?;
         }
-        for (child, symbol) in children.iter().zip(body) {
+        for (place, child) in children.iter().enumerate() {
+            let Some(symbol) = body.get(place).copied() else {
+                return Ok(false);
+            };
             match trees.node(*child) {
-                Some(node) if node.symbol == *symbol => {}
+                Some(node) if node.symbol == symbol => {}
                 _ => return Ok(false),
             }
         }

@@ -20,7 +20,7 @@ use yfindings::finding::Seen;
 use yfindings::levels::givers_of;
 use yfindings::walk::Walk;
 use yforeign::groups::groups_of;
-use ylayouts::layout::Layout;
+use ylayouts::layout::{Layout, layout_of};
 use ylayouts::manner::{ASCII, Manner};
 use ylayouts::report::{Report, Things};
 use ylayouts::spare::{Spares, spares_of};
@@ -109,24 +109,6 @@ fn texts_of<'a>(
         texts.push(Text { path, bytes })?;
     }
     Ok(texts)
-}
-
-/// An automaton that is laid out with these names and signs.
-fn layout_of<'x>(
-    alloc: Global,
-    tables: &'x Tables,
-    manner: Manner<'x>,
-    (code, states): (&'x Code, &'x [usize]),
-    numbering: &'x Numbering,
-) -> Layout<'x> {
-    Layout {
-        alloc,
-        tables,
-        manner,
-        code,
-        states,
-        numbering,
-    }
 }
 
 /// Adds the graph as byacc draws it.

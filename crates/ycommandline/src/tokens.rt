@@ -19,7 +19,10 @@ fn put_tokens<W: Write>(
     text: &Text,
 ) -> io::Result<()> {
     let mut before = 0;
-    for (index, (symbol, place)) in tokens.iter().zip(&text.places).enumerate() {
+    for (index, symbol) in tokens.iter().enumerate() {
+        let Some(place) = text.places.get(index) else {
+            break;
+        };
         let between = text.bytes.get(before..*place).unwrap_or(&[]);
         if index > 0 || between.contains(&b'\n') {
             // a token stands on its line of the text

@@ -89,12 +89,13 @@ pub fn put_errors<W: Write>(page: &mut Page<W>, parse: &Parse) {
 
 /// Whether any edit stands.
 pub fn has_edits(session: &Session) -> bool {
-    (0..session.position()).any(|index| {
-        matches!(
-            session.kind_at(index),
-            Some(StepKind::Insert(_) | StepKind::Drop(_))
-        )
-    })
+    for index in 0..session.position() {
+        let kind = session.kind_at(index);
+        if matches!(kind, Some(StepKind::Insert(_) | StepKind::Drop(_))) {
+            return true;
+        }
+    }
+    false
 }
 
 /// The whole input with its edits, in the form of a tokens file: the tokens that were read and

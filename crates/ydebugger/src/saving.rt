@@ -155,9 +155,10 @@ pub fn edited_text<F: Files + AllocGlobal>(
         Err(TextFault::Memory) => return Err(io::Error::from(ErrorKind::OutOfMemory)),
         Err(_) => return Ok(None),
     };
-    let mut is_same = lexed.tokens.symbols.len() == tokens.len();
-    for (cut, (token, _)) in lexed.tokens.symbols.iter().zip(&tokens) {
-        is_same = is_same && cut == token;
+    let cuts = lexed.tokens.symbols.as_slice();
+    let mut is_same = cuts.len() == tokens.len();
+    for (place, (token, _)) in tokens.iter().enumerate() {
+        is_same = is_same && cuts.get(place) == Some(token);
     }
     Ok(if is_same { Some(made) } else { None })
 }

@@ -115,18 +115,19 @@ pub fn common_sheet(
 ) -> Made<CommonSheet> {
     let mut offers = Vec::new(alloc);
     if let Some(sought) = sought {
-        for (place, block) in sought
-            .blocks
-            .list
-            .iter()
-            .take(sought.answers.len())
-            .enumerate()
-        {
-            let has_hints = sought.offer(place, block).has_hints();
-            offers.push((block.first.number, has_hints))?;
+        for (place, block) in sought.blocks.list.iter().enumerate() {
+            if place < sought.answers.len() {
+                let has_hints = sought.offer(place, block).has_hints();
+                offers.push((block.first.number, has_hints))?;
+            }
         }
     }
     causes.keep_offered(alloc, (grammar, lines), &offers)?;
+    sheet_of(alloc, grammar, causes)
+}
+
+/// These causes as a sheet.
+fn sheet_of(alloc: Global, grammar: &Grammar, causes: &Causes) -> Made<CommonSheet> {
     let mut sheet = CommonSheet {
         conflicts: causes.all,
         changes: Vec::new(alloc),

@@ -95,11 +95,10 @@ fn rival_note(alloc: Global, rival: &RivalSheet) -> Made<Note> {
 
 /// Adds the lines of a text as notes.
 fn help_lines(alloc: Global, one: &mut Diagnostic, text: &[u8]) -> io::Result<()> {
-    for line in text
-        .split(|byte| *byte == b'\n')
-        .filter(|line| !line.is_empty())
-    {
-        one.help(Vec::from_slice(alloc, line.trim_ascii_start())?)?;
+    for line in text.split(|byte| *byte == b'\n') {
+        if !line.is_empty() {
+            one.help(Vec::from_slice(alloc, line.trim_ascii_start())?)?;
+        }
     }
     Ok(())
 }
@@ -192,15 +191,31 @@ impl Scene<'_> {
         for reason in offer.reasons() {
             one.help(Vec::from_slice(self.alloc, reason.as_bytes())?)?;
         }
+        self.help_mends(&mut one, mended, split)?;
+        self.help_hints(&mut one, block, offer)?;
+        Ok(one)
+    }
+
+    /// Adds the copies of a nonterminal and the changes of rules that are offered.
+    fn help_mends(
+        self,
+        one: &mut Diagnostic,
+        mended: Option<&Mended>,
+        split: Option<Split>,
+    ) -> io::Result<()> {
+        let (grammar, lines) = (grammar_of(self.tables), self.shown.lines);
         let mut text = Vec::new(self.alloc);
         if let Some(split) = split {
-            split.put(&mut text, grammar_of(self.tables), self.shown.lines)?;
+            split.put(&mut text, grammar, lines)?;
         }
         if let Some(mended) = mended {
-            let (grammar, lines) = (grammar_of(self.tables), self.shown.lines);
             MendText { grammar, lines }.put(&mut text, &self.sought.idioms, mended)?;
         }
-        help_lines(self.alloc, &mut one, &text)?;
+        help_lines(self.alloc, one, &text)
+    }
+
+    /// Adds the hints that are offered.
+    fn help_hints(self, one: &mut Diagnostic, block: &Block, offer: Offer) -> io::Result<()> {
         for class in &block.classes {
             let (true, Some(entry)) = (offer.has_hints(), class.entries.first()) else {
                 continue;
@@ -210,9 +225,9 @@ impl Scene<'_> {
                 .cell(self.tables, self.shown.lines)
                 .put_hint(&mut text)?;
             put_losses(&mut text, grammar_of(self.tables), &class.losses)?;
-            help_lines(self.alloc, &mut one, &text)?;
+            help_lines(self.alloc, one, &text)?;
         }
-        Ok(one)
+        Ok(())
     }
 
     /// Tells all causes, and the kinds that stand in none since there are too many, in the order of

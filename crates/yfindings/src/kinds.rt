@@ -200,12 +200,12 @@ impl Kinds {
 
     /// Whether words ask for a kind but those of conflicts.
     pub fn ask_for_more(&self) -> bool {
-        for (said, (kind, _, _)) in self.told.iter().zip(&KINDS) {
+        for (number, (kind, _, _)) in KINDS.iter().enumerate() {
             let is_conflict = matches!(
                 kind,
                 Kind::ConflictsSr | Kind::ConflictsRr | Kind::Counterexamples
             );
-            if !is_conflict && *said == Word::On {
+            if !is_conflict && self.told.get(number) == Some(&Word::On) {
                 return true;
             }
         }

@@ -30,8 +30,12 @@ fn lines_of(
     let mut spots = spots_of(alloc, source, marks)?;
     if let Some(origin) = origin {
         let mut counted = Spots::new(origin.bytes);
-        for (spot, mark) in spots.iter_mut().zip(marks) {
-            spot.column = match origin.pieces.original_place(mark.placed.at) {
+        for (place, spot) in spots.iter_mut().enumerate() {
+            let at = match marks.get(place) {
+                Some(mark) => origin.pieces.original_place(mark.placed.at),
+                None => None,
+            };
+            spot.column = match at {
                 Some(at) => Some(counted.reach(at).1),
                 None => None,
             };

@@ -103,7 +103,10 @@ impl Manner<'_> {
         let spots = self.spots_of(alloc, items)?;
         for level in 0..items.len() {
             let mut column = 0usize;
-            for (item, spot) in items.iter().zip(&spots) {
+            for (place, item) in items.iter().enumerate() {
+                let Some(spot) = spots.get(place) else {
+                    continue;
+                };
                 if item.level != level {
                     continue;
                 }

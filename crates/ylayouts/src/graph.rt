@@ -74,7 +74,7 @@ impl Layout<'_> {
                 out.put(": ");
             }
             None => {
-                let left = left_of(self.grammar(), item.rule).unwrap_or(0);
+                let left = left_of(self.grammar, item.rule).unwrap_or(0);
                 out.spaces(self.manner.width(left));
                 out.put("| ");
             }
@@ -110,7 +110,7 @@ impl Layout<'_> {
                 out.put(" [style=dotted]\n");
                 continue;
             }
-            let is_shift = self.grammar().is_token(symbol);
+            let is_shift = self.grammar.is_token(symbol);
             out.put(" [style=");
             out.put(if is_shift { "solid" } else { "dashed" });
             out.put(" label=\"");
@@ -129,7 +129,7 @@ impl Layout<'_> {
         is_lost: bool,
     ) -> bool {
         let mut any = false;
-        for token in self.tokens() {
+        for token in self.tokens {
             let is_meant = owned.get(*token) == Some(&is_lost);
             if is_meant && self.is_left(state, *token, rule) {
                 out.put(if any { ", " } else { "" });
@@ -143,7 +143,7 @@ impl Layout<'_> {
     /// Writes the reductions of a state, each apart at tokens at which it loses a conflict.
     fn put_reductions(&self, out: &mut Output, state: usize) -> Made<()> {
         let mut owned = Vec::new(self.alloc);
-        for token in 0..token_count(self.grammar()) {
+        for token in 0..token_count(self.grammar) {
             let is_free = matches!(action_of(self.tables, state, token), Action::Reduce(_));
             owned.push(!is_free)?;
         }
@@ -233,8 +233,8 @@ impl Layout<'_> {
         out.put(HEAD);
         for (number, state) in &self.drawn()? {
             put_head(&mut out, *number);
-            if *state == self.end() {
-                let dot = body_of(self.grammar(), 0).len();
+            if *state == self.code.states {
+                let dot = body_of(self.grammar, 0).len();
                 self.put_item(&mut out, Item { rule: 0, dot }, None);
                 out.put("\"]\n");
                 put_reduction(&mut out, (*number, 0), None, "", "1");

@@ -22,6 +22,8 @@ pub struct Layout<'a> {
     pub alloc: Global,
     /// The tables.
     pub tables: &'a Tables,
+    /// Their grammar.
+    pub grammar: &'a Grammar,
     /// What symbols are called, and signs.
     pub manner: Manner<'a>,
     /// The arrays of the parser.
@@ -30,14 +32,36 @@ pub struct Layout<'a> {
     pub states: &'a [usize],
     /// Those that it gives rules and tokens, and its order of symbols.
     pub numbering: &'a Numbering,
+    /// The tokens in that order.
+    pub tokens: &'a [Sym],
+    /// The nonterminals in that order.
+    pub nonterminals: &'a [Sym],
 }
 
-impl<'a> Layout<'a> {
-    /// The grammar.
-    pub fn grammar(&self) -> &'a Grammar {
-        grammar_of(self.tables)
+/// An automaton that is laid out with these names and signs.
+pub fn layout_of<'x>(
+    alloc: Global,
+    tables: &'x Tables,
+    manner: Manner<'x>,
+    (code, states): (&'x Code, &'x [usize]),
+    numbering: &'x Numbering,
+) -> Layout<'x> {
+    let grammar = grammar_of(tables);
+    let (order, count) = (numbering.order.as_slice(), token_count(grammar));
+    Layout {
+        alloc,
+        tables,
+        grammar,
+        manner,
+        code,
+        states,
+        numbering,
+        tokens: order.get(..count).unwrap_or(order),
+        nonterminals: order.get(count..).unwrap_or(&[]),
     }
+}
 
+impl Layout<'_> {
     /// The number that bison gives a state.
     pub fn number(&self, state: usize) -> usize {
         self.states.get(state).copied().unwrap_or(state)
@@ -48,34 +72,11 @@ impl<'a> Layout<'a> {
         self.numbering.rules.get(rule).copied().unwrap_or(rule)
     }
 
-    /// The tokens in bison's order.
-    pub fn tokens(&self) -> &'a [Sym] {
-        let order = self.numbering.order.as_slice();
-        order.get(..token_count(self.grammar())).unwrap_or(order)
-    }
-
-    /// The nonterminals in bison's order.
-    pub fn nonterminals(&self) -> &'a [Sym] {
-        let order = self.numbering.order.as_slice();
-        order.get(token_count(self.grammar())..).unwrap_or(&[])
-    }
-
-    /// How many tokens bison counts: what is no token is one of them.
-    pub fn tokens_counted(&self) -> usize {
-        let more = usize::from(self.numbering.none.is_none());
-        token_count(self.grammar()).saturating_add(more)
-    }
-
-    /// The state that comes after all of ours, in which the end was shifted.
-    pub fn end(&self) -> usize {
-        self.code.states
-    }
-
     /// The states that a parse comes to, each after its number, in the order of these. After all of
     /// ours comes the state in which the end was shifted.
     pub fn drawn(&self) -> Made<Vec<(usize, usize)>> {
         let walk = Walk::new(self.alloc, self.tables)?;
-        let (end, mut drawn) = (self.end(), Vec::new(self.alloc));
+        let (end, mut drawn) = (self.code.states, Vec::new(self.alloc));
         for state in 0..end.saturating_add(1) {
             if state == end || walk.comes_to(state) {
                 drawn.push((self.number(state), state))?;
@@ -87,12 +88,12 @@ impl<'a> Layout<'a> {
 
     /// Where a symbol leads from a state: by a shift, which may be that of the end, or by a goto.
     pub fn way(&self, state: usize, symbol: Sym) -> Option<usize> {
-        if !self.grammar().is_token(symbol) {
+        if !self.grammar.is_token(symbol) {
             return goto_of(self.tables.automaton(), state, symbol);
         }
         match action_of(self.tables, state, symbol) {
             Action::Shift(next) => Some(next),
-            Action::Accept => Some(self.end()),
+            Action::Accept => Some(self.code.states),
             _ => None,
         }
     }
@@ -114,7 +115,7 @@ impl<'a> Layout<'a> {
 
     /// The complete items of a state, whose rules it may reduce by.
     pub fn ready(&self, state: usize) -> Made<Vec<Item>> {
-        let (grammar, mut ready) = (self.grammar(), Vec::new(self.alloc));
+        let (grammar, mut ready) = (self.grammar, Vec::new(self.alloc));
         for item in items_of(self.tables.automaton(), state) {
             if item.rule > 0 && is_complete(grammar, *item) {
                 ready.push(*item)?;
@@ -134,7 +135,7 @@ impl<'a> Layout<'a> {
         if ready.len() != 1 {
             return !ready.is_empty();
         }
-        for token in self.tokens() {
+        for token in self.tokens {
             if shift_of(self.tables, state, *token).is_some() {
                 return true;
             }
@@ -144,9 +145,9 @@ impl<'a> Layout<'a> {
 
     /// The left side of a rule, unless it is that of the rule before.
     pub fn new_left(&self, rule: usize, before: Option<usize>) -> Option<Sym> {
-        let left = left_of(self.grammar(), rule);
+        let left = left_of(self.grammar, rule);
         match before {
-            Some(before) if left_of(self.grammar(), before) == left => None,
+            Some(before) if left_of(self.grammar, before) == left => None,
             _ => left,
         }
     }

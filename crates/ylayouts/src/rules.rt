@@ -65,7 +65,7 @@ impl Report<'_> {
                 sheet.put(":");
             }
             None => {
-                let left = left_of(layout.grammar(), rule).unwrap_or(0);
+                let left = left_of(layout.grammar, rule).unwrap_or(0);
                 sheet.spaces(layout.manner.width(left));
                 sheet.put("|");
             }
@@ -74,7 +74,7 @@ impl Report<'_> {
 
     /// Whether a rule stands in sentences, as far as rules lead to it.
     fn is_needed(&self, rule: usize) -> bool {
-        let grammar = self.layout.grammar();
+        let grammar = self.layout.grammar;
         rule == 0 || is_reachable(grammar, left_of(grammar, rule).unwrap_or(0))
     }
 
@@ -85,7 +85,7 @@ impl Report<'_> {
             sheet.put("\n");
         }
         self.put_left(sheet, mark, rule, before);
-        let body = body_of(layout.grammar(), rule);
+        let body = body_of(layout.grammar, rule);
         for symbol in body {
             sheet.put(" ");
             self.put_name(sheet, *symbol);
@@ -101,7 +101,7 @@ impl Report<'_> {
     pub fn put_grammar(&self, sheet: &mut Sheet) {
         sheet.title("Grammar");
         let mut before = None;
-        for rule in 0..self.layout.grammar().rules() {
+        for rule in 0..self.layout.grammar.rules() {
             if self.is_needed(rule) {
                 self.put_rule(sheet, Mark::Rule, rule, before);
                 before = Some(rule);
@@ -114,7 +114,7 @@ impl Report<'_> {
     pub fn put_lost(&self, sheet: &mut Sheet) -> Made<()> {
         let walk = Walk::new(self.layout.alloc, self.layout.tables)?;
         let mut before = None;
-        for rule in 1..self.layout.grammar().rules() {
+        for rule in 1..self.layout.grammar.rules() {
             if !self.is_needed(rule) || is_set(&walk.reduced, rule) {
                 continue;
             }
@@ -169,7 +169,7 @@ impl Report<'_> {
     /// Writes the rules that no sentence needs.
     fn put_spare_rules(&self, sheet: &mut Sheet) {
         let (spares, layout, mut number) = (self.spares, self.layout, 0usize);
-        for rule in 0..layout.grammar().rules() {
+        for rule in 0..layout.grammar.rules() {
             number = number.saturating_add(usize::from(self.is_needed(rule)));
         }
         for (place, rule) in spares.rules.iter().enumerate() {
@@ -228,7 +228,7 @@ impl Report<'_> {
 
     /// For each symbol the numbers of the rules that have it.
     fn uses(&self) -> Made<Uses> {
-        let (alloc, grammar) = (self.layout.alloc, self.layout.grammar());
+        let (alloc, grammar) = (self.layout.alloc, self.layout.grammar);
         let mut uses = Uses {
             lefts: Vec::new(alloc),
             bodies: Vec::new(alloc),
@@ -287,10 +287,13 @@ impl Report<'_> {
     /// Writes the nonterminals, each with the rules that have it.
     fn put_nonterminals(&self, sheet: &mut Sheet, uses: &Uses) {
         sheet.title("Nonterminals, with rules where they appear");
-        let mut number = self.layout.tokens_counted();
-        for (place, symbol) in self.layout.nonterminals().iter().enumerate() {
+        // what is no token is one of the tokens that bison counts
+        let layout = self.layout;
+        let more = usize::from(layout.numbering.none.is_none());
+        let mut number = layout.tokens.len().saturating_add(more);
+        for (place, symbol) in layout.nonterminals.iter().enumerate() {
             let symbol = *symbol;
-            if place > 0 && !is_reachable(self.layout.grammar(), symbol) {
+            if place > 0 && !is_reachable(layout.grammar, symbol) {
                 continue;
             }
             self.put_symbol(sheet, symbol, number);

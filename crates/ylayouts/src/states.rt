@@ -40,7 +40,7 @@ impl Report<'_> {
     fn put_item(&self, sheet: &mut Sheet, item: Item, before: Option<usize>) {
         self.put_left(sheet, Mark::ToRule, item.rule, before);
         let signs = self.layout.manner.signs;
-        let body = body_of(self.layout.grammar(), item.rule);
+        let body = body_of(self.layout.grammar, item.rule);
         if body.is_empty() {
             sheet.put(" ");
             sheet.put(signs.empty.0);
@@ -63,7 +63,7 @@ impl Report<'_> {
     fn put_lookaheads(&self, sheet: &mut Sheet, state: usize, rule: usize) {
         let (layout, mut any) = (self.layout, false);
         sheet.put("  [");
-        for token in layout.tokens() {
+        for token in layout.tokens {
             if layout.is_left(state, *token, rule) {
                 sheet.put(if any { ", " } else { "" });
                 self.put_name(sheet, *token);
@@ -84,7 +84,7 @@ impl Report<'_> {
                 continue;
             }
             self.put_item(sheet, *item, before);
-            let length = body_of(layout.grammar(), item.rule).len();
+            let length = body_of(layout.grammar, item.rule).len();
             if shows && item.rule > 0 && item.dot >= length {
                 self.put_lookaheads(sheet, state, item.rule);
             }
@@ -126,8 +126,8 @@ impl Report<'_> {
     fn put_rows(&self, sheet: &mut Sheet, state: usize, row: Row) {
         let layout = self.layout;
         let symbols = match row {
-            Row::Goto => layout.nonterminals(),
-            _ => layout.tokens(),
+            Row::Goto => layout.nonterminals,
+            _ => layout.tokens,
         };
         let mut width = 0usize;
         for symbol in symbols {
@@ -163,7 +163,7 @@ impl Report<'_> {
         let layout = self.layout;
         let (default, mut found) = (layout.default_rule(state), Vec::new(layout.alloc));
         if layout.looks_ahead(state, ready) {
-            for token in layout.tokens() {
+            for token in layout.tokens {
                 let action = action_of(layout.tables, state, *token);
                 let mut rules = Vec::new(layout.alloc);
                 for item in ready {
@@ -208,7 +208,7 @@ impl Report<'_> {
             sheet.put("reduce using ");
             sheet.mark("rule ", Mark::ToRule, layout.rule(it.rule));
             sheet.put(" (");
-            let left = rule_of(layout.grammar(), it.rule).map_or(0, |rule| rule.left());
+            let left = rule_of(layout.grammar, it.rule).map_or(0, |rule| rule.left());
             self.put_name(sheet, left);
             sheet.put(if it.is_done { ")\n" } else { ")]\n" });
         }
@@ -218,7 +218,7 @@ impl Report<'_> {
     /// Writes how precedences settle a rule beside a shift, where they do; the empty line before all
     /// of these comes before the first one.
     fn put_settled(&self, sheet: &mut Sheet, token: Sym, it: Candidate, any: &mut bool) {
-        let level = level_of(self.layout.grammar(), token).map_or(0, |level| level.level);
+        let level = level_of(self.layout.grammar, token).map_or(0, |level| level.level);
         let has_direction = match self.seen {
             Some(seen) => !seen.has_no_direction(level),
             None => true,
@@ -257,7 +257,7 @@ impl Report<'_> {
     fn put_all_settled(&self, sheet: &mut Sheet, state: usize, ready: &[Item]) {
         let (tables, mut any) = (self.layout.tables, false);
         for item in ready {
-            for token in self.layout.tokens() {
+            for token in self.layout.tokens {
                 if shift_of(tables, state, *token).is_none() {
                     continue;
                 }
@@ -279,8 +279,8 @@ impl Report<'_> {
         sheet.put("\n\n");
         sheet.mark("State ", Mark::State, number);
         sheet.put("\n");
-        if state == self.layout.end() {
-            let dot = body_of(self.layout.grammar(), 0).len();
+        if state == self.layout.code.states {
+            let dot = body_of(self.layout.grammar, 0).len();
             sheet.put("\n");
             self.put_item(sheet, Item { rule: 0, dot }, None);
             sheet.put("\n\n    $default  accept\n");

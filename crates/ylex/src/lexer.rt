@@ -253,8 +253,8 @@ impl Cutting<'_> {
                 found = found.or(text.len(), Some(word.token));
             }
         }
-        for (matcher, token) in self.matchers.iter_mut().zip(&lexer.tokens) {
-            if let Some(part) = matcher.find(rest) {
+        for (place, matcher) in self.matchers.iter_mut().enumerate() {
+            if let (Some(part), Some(token)) = (matcher.find(rest), lexer.tokens.get(place)) {
                 found = found.or(part.end(), *token);
             }
         }

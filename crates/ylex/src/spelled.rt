@@ -5,7 +5,7 @@ use regex_hir::Hir;
 use regex_syntax::{Config, ErrorKind, Parsed, parse};
 use std::alloc::{AllocError, Global};
 use std::str;
-use yexplain::reads::{Made, set};
+use yexplain::reads::{Made, is_set, set};
 use ysymbols::Grammar;
 
 /// The text of each symbol, by its number, where it has one.
@@ -62,8 +62,8 @@ pub fn plain_texts(alloc: Global, grammar: &Grammar, spec: &Spec<'_>) -> Made<Te
             (None, _) => set(&mut others, token, true),
         }
     }
-    for (text, other) in texts.iter_mut().zip(&others) {
-        if *other {
+    for (symbol, text) in texts.iter_mut().enumerate() {
+        if is_set(&others, symbol) {
             *text = None;
         }
     }

@@ -117,8 +117,8 @@ impl Trial<'_> {
                 return Ok(Some(text));
             }
         }
-        for (given, regex) in self.lexer.tokens.iter().zip(&self.lexer.regexes) {
-            if *given == Some(token) {
+        for (place, regex) in self.lexer.regexes.iter().enumerate() {
+            if self.lexer.tokens.get(place) == Some(&Some(token)) {
                 let found = self.by_regex(regex, &[token])?;
                 if found.is_some() {
                     return Ok(found);
@@ -143,8 +143,8 @@ impl Trial<'_> {
         self.add_passed(&mut separators, b" ")?;
         self.add_passed(&mut separators, b"\t")?;
         if separators.is_empty() {
-            for (given, regex) in self.lexer.tokens.iter().zip(&self.lexer.regexes) {
-                if given.is_some() {
+            for (place, regex) in self.lexer.regexes.iter().enumerate() {
+                if self.lexer.tokens.get(place) != Some(&None) {
                     continue;
                 }
                 if let Some(text) = self.by_regex(regex, &[])? {

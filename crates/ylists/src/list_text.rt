@@ -50,8 +50,11 @@ impl<'a> ListText<'a> {
     /// Writes that no list allows both rivals, where that is so.
     pub fn put_merged<W: Write>(&self, page: &mut Page<W>, finding: &Finding) {
         if !is_merged(finding) {
-            if finding.lists.iter().any(|list| list.allows != Allows::Both) {
-                page.line("  The search for a list of tokens that allows both took too long.");
+            for list in &finding.lists {
+                if list.allows != Allows::Both {
+                    page.line("  The search for a list of tokens that allows both took too long.");
+                    return;
+                }
             }
             return;
         }

@@ -26,12 +26,16 @@ impl Classes<'_> {
 
     /// Whether two bodies are the same but for members of one class.
     fn are_equal(&self, one: &[Sym], other: &[Sym]) -> bool {
-        for (ours, theirs) in one.iter().zip(other) {
-            if self.class(*ours) != self.class(*theirs) {
+        if one.len() != other.len() {
+            return false;
+        }
+        for (place, ours) in one.iter().enumerate() {
+            let theirs = other.get(place).copied().unwrap_or(*ours);
+            if self.class(*ours) != self.class(theirs) {
                 return false;
             }
         }
-        one.len() == other.len()
+        true
     }
 
     /// Whether each body of a nonterminal is one of another nonterminal.

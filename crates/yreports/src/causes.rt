@@ -367,9 +367,10 @@ pub fn causes_of(
     }
     let grammar = grammar_of(tables);
     let cells = tried_of(alloc, tables, lines, found)?;
-    let all = cells
-        .iter()
-        .fold(0usize, |sum, cell| sum.saturating_add(cell.weight()));
+    let mut all = 0usize;
+    for cell in &cells {
+        all = all.saturating_add(cell.weight());
+    }
     let barred = barred_of(alloc, tables)?;
     let changes = changes_of(alloc, grammar, lines, (&cells, &barred))?;
     let marks = Marks::new(alloc, grammar)?;

@@ -105,7 +105,9 @@ pub fn counted<'a>(
         tokens: marks.tokens.as_slice(),
         rules: marks.rules.as_slice(),
     };
-    cells.iter().fold(0usize, |sum, cell| {
-        sum.saturating_add(cell.counted(supposed))
-    })
+    let mut sum = 0usize;
+    for cell in cells {
+        sum = sum.saturating_add(cell.counted(supposed));
+    }
+    sum
 }

@@ -84,6 +84,20 @@ impl Drop for Chosen {
     }
 }
 
+/// Drops a sentence whose elements are all used by others too, which are counted.
+fn spare(counts: &mut [usize], sentence: &mut Sentence) {
+    for element in &sentence.uses {
+        if counts.get(*element).copied().unwrap_or(0) <= 1 {
+            return;
+        }
+    }
+    sentence.kept = false;
+    for element in &sentence.uses {
+        let count = counts.get(*element).copied().unwrap_or(0);
+        set(counts, *element, count.saturating_sub(1));
+    }
+}
+
 impl Chosen {
     /// Whether a sentence uses an element.
     fn is_used(&self, element: usize) -> bool {
@@ -117,26 +131,15 @@ impl Chosen {
         let mut counts = vec![in alloc; 0usize; self.used.len()]?;
         for sentence in &self.sentences {
             for element in &sentence.uses {
-                if let Some(count) = counts.get_mut(*element) {
-                    *count = count.saturating_add(1);
-                }
+                let count = counts.get(*element).copied().unwrap_or(0);
+                set(&mut counts, *element, count.saturating_add(1));
             }
         }
-        let order = self.order(alloc)?;
-        for place in order.iter().rev() {
-            let Some(sentence) = self.sentences.get_mut(*place) else {
-                continue;
-            };
-            let mut is_spared = true;
-            for element in &sentence.uses {
-                is_spared = is_spared && counts.get(*element).copied().unwrap_or(0) > 1;
-            }
-            sentence.kept = !is_spared;
-            if is_spared {
-                for element in &sentence.uses {
-                    let count = counts.get(*element).copied().unwrap_or(0);
-                    set(&mut counts, *element, count.saturating_sub(1));
-                }
+        let mut order = self.order(alloc)?;
+        order.reverse();
+        for place in &order {
+            if let Some(sentence) = self.sentences.get_mut(*place) {
+                spare(&mut counts, sentence);
             }
         }
         Ok(())
@@ -372,8 +375,8 @@ impl Chooser<'_> {
     /// How many elements are missed since the parse over each list that was tried went another way.
     fn astray(&self) -> usize {
         let (chosen, mut count) = (&self.chosen, 0usize);
-        for (used, missing) in chosen.used.iter().zip(&chosen.missing) {
-            let is_astray = matches!(missing, Missing::Astray) && !*used;
+        for (element, missing) in chosen.missing.iter().enumerate() {
+            let is_astray = matches!(missing, Missing::Astray) && !chosen.is_used(element);
             count = count.saturating_add(usize::from(is_astray));
         }
         count
