@@ -250,7 +250,7 @@ class Features(Planted):
         for peer, text, wrong in (
             ("bison", first.replace("bison", "ycc"), False), ("bison", other, True),
             ("byacc", other, False), ("byacc", other.replace("solid", "dotted", 1), True),
-            ("byacc", other.replace("Acc", "R1"), True),
+            ("byacc", other.replace("Acc", "another"), True),
             ("byacc", first.replace('"2R', '"1R'), True),
         ):
             file.write_text(f"/* {peer} draws: -Wnone */\n%%\ns : 'a' 'b' ;\n")
