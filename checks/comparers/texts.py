@@ -69,7 +69,7 @@ class Spec:
 
     def __init__(self, grammar, rng):
         self.grammar, self.lines = grammar, []
-        self.rules, self.words, self.absent = [], [], set()
+        self.rules, self.words, self.absent, self.small = [], [], set(), {}
         self.texts = []
         used = {it for rule in grammar.rules for it in rule.body} - {END, ERROR}
         self.skip(SKIPS[0])
@@ -96,6 +96,7 @@ class Spec:
             self.lines.append((1, f"%keywords {'-i ' * folded}{name}", None))
         elif way < 0.3 and name == name.upper():
             self.words.append((token, name.lower().encode(), False))
+            self.small[token] = name.lower()
             self.texts += [name.lower()]
             self.lines.append((1, f"%keywords --upper {name.lower()}", None))
         elif way < 0.35:
@@ -155,6 +156,7 @@ class Spec:
         """What people are told of a token: the text that it always is, or its name, unless that says
         little."""
         texts = [PLAIN.get(rule.pattern.decode()) for it, rule in self.rules if it == token]
+        texts = [self.small[token]] if token in self.small else texts
         if not texts or None in texts or self.cut(texts[0].encode()) != ([(token, 0)], len(texts[0])):
             name = self.grammar.names[token]
             return {"$end": "end of input", r"'\012'": "end of line"}.get(name, name)

@@ -12,10 +12,11 @@ after them. The last line is `N passed, M failed`.
 """
 import os
 import re
+import shutil
 import tempfile
 from collections import Counter
 from concurrent.futures import ProcessPoolExecutor
-from functools import partial
+from functools import cache, partial
 from pathlib import Path
 
 from checks.memory.refuse import ALL
@@ -39,6 +40,8 @@ SESSIONS = {
     "edits": (EXAMPLES / "statements", "insert '{'|s|drop|insert ID|s 3|back 4|drop|history"),
     "files": (EXAMPLES / "statements", "to 5|save one|save one|drop|save! one|save! two"),
     "reload": (EXAMPLES / "statements", "to 9|insert ';'|reload|s 2|reload"),
+    "breaks": (EXAMPLES / "statements", "break shift ID|b ID|run|breaks|c|n|n 2|delete 1|finish|c"),
+    "shown": (EXAMPLES / "statements", "to 21|explain|list|bt|errors|insert ID ';' ID|upcoming"),
     "recovery": (HERE / "recovery", "run until error|s 3|expected|run|tree|derivation|conflicts"),
     "texts": (A_QUERY, "where|s 3|run until error|upcoming|back 2|insert FROM|where|to 2|run"),
     "texts again": (A_QUERY, "to 9|drop|reload|expected|insert NAME|reload|history|run|tree all"),
@@ -48,6 +51,11 @@ COMMANDS = {
     "check": (QUERIES, "check grammar.y --lex queries.lex open.sql comma.sql quote.sql"),
     "tokens": (QUERIES, "tokens grammar.y --lex queries.lex open.sql"),
     "sketch": (QUERIES, "lex-spec grammar.y"),
+    "begun": (HERE / "init/help", "init sums"),
+    "tests": (
+        HERE / "test/passing",
+        "test settings.y tests --lex settings.lex --messages settings.messages",
+    ),
     "ungiven": (HERE / "lex", "check grammar.y --lex refused-ungiven/bad.lex good.sql"),
     "bison": (HERE / "from-bison", "check grammar.y tokens --from bison"),
     "bison text": (HERE / "from-bison", "tokens grammar.y --from bison --lex text/e.lex text/good"),
@@ -78,11 +86,13 @@ COMMANDS = {
         HERE / "check/messages-as-texts", "check sums.y one two --lex sums.lex --messages own"
     ),
 }
+# The folder of tests that a command reads.
+TESTS = "tests"
 # A line whose answer takes no memory, and that answer.
 MARK = "help quit"
 MARKED = re.compile(r"(?m)^  quit +ends the session, as the end of input does\n")
 # What a move is, and where a parse stands.
-MOVE = re.compile(r"(s|step|b|back|to|r|run)( |$)")
+MOVE = re.compile(r"(s|step|b|back|to|r|run|c|n|finish)( |$)")
 PLACE = re.compile(r"^ *(\d+)  \S")
 NO_MEMORY = "no memory"
 
@@ -92,14 +102,21 @@ def spelled(lines):
     return "".join(f"{line}\n{MARK}\nwhere\n{MARK}\n" for line in lines).encode()
 
 
+def file_of(folder, name):
+    """The file of a name, in a folder or in the one above, which several scenarios share."""
+    return next((it for it in (folder / name, folder.parent / name) if it.is_file()), None)
+
+
 def run(ydebug, source, given, **more):
     """The status, both streams and the files of a run in a folder of its own."""
     folder, words = source if isinstance(source, tuple) else (source, ("grammar.y", "tokens"))
     with tempfile.TemporaryDirectory() as room:
         for name in words:
-            if (folder / name).is_file():
+            if file := file_of(folder, name):
                 Path(room, name).parent.mkdir(exist_ok=True)
-                Path(room, name).write_bytes((folder / name).read_bytes())
+                Path(room, name).write_bytes(file.read_bytes())
+            elif name == TESTS:
+                shutil.copytree(folder / name, f"{room}/{name}")
         made = ran([ydebug, *words], room, given, timeout=120, **more)
         files = {it.name: it.read_bytes() for it in Path(room).iterdir() if it.is_file()}
     return made.returncode, made.stdout.decode(), made.stderr.decode(), files
@@ -180,7 +197,8 @@ def is_begun(text, usual):
 def laid(source):
     """The files that a run finds."""
     folder, words = source
-    return {it: (folder / it).read_bytes() for it in words if (folder / it).is_file()}
+    files = {it: file_of(folder, it) for it in words}
+    return {it: file.read_bytes() for it, file in files.items() if file}
 
 
 def way_of_command(made, wanted, before):
@@ -197,13 +215,19 @@ def way_of_command(made, wanted, before):
     return "wrong", f"{status} {message}{text}"
 
 
+@cache
+def undisturbed(ydebug, source):
+    """How a command ends as usual."""
+    return run(ydebug, source, b"")
+
+
 def refused_once(number, last, ydebug, source, lines, library):
     """How a run ended with some allocations refused, and how many it asked for."""
     given = spelled(lines) if lines else b""
     run_it = partial(run, ydebug, source, given)
     made, calls = refusing(number, last or number, library, run_it)
     if not lines:
-        return *way_of_command(made, run(ydebug, source, given), laid(source)), calls
+        return *way_of_command(made, undisturbed(ydebug, source), laid(source)), calls
     status, text, message, _ = made
     if (status, text, message) == (3, "", "ydebug: no memory\n"):
         return "end with no memory", None, calls

@@ -147,7 +147,7 @@ def refused_once(programs, library):
             differs += [f"allocation {number} refused\n", *wrong(made, it.wanted)]
     if len(found) < 2:
         differs.append("no allocation of a step was refused\n")
-    return "one refused in turn", differs, Counter()
+    return "each refused once", differs, Counter()
 
 
 # A list with an error, which is run twice and then undone.

@@ -59,6 +59,8 @@ SHARE, FEW = 4, 64
 # name that is no token.
 BEYOND = 4, 6
 MOST = 20_000
+# Its last symbol is an action within a body, whose kind needs a bit more than those before it.
+INNER = b"%%\ns : t 'a' ;\nt : u 'b' ;\nu : 'a' { } 'b' ;\n", b"'a' 'b' 'b' 'a'\n"
 
 FRONT = b"""%{
 #include <stdio.h>
@@ -280,7 +282,7 @@ def by_grammar(given):
     pairs = [it for it in dict.fromkeys(pairs_of_scenarios()) if len(it[0]) < LONGEST]
     pairs = [it for it in pairs if is_plain(it[0])]
     pairs = [it for it in pairs if zlib.crc32(it[0]) % (FEW if given.few else SHARE) == 0]
-    pairs += [pair_of(rng) for _ in range(given.drawn)]
+    pairs += [INNER, *(pair_of(rng) for _ in range(given.drawn))]
     found = {}
     for grammar, tokens in pairs:
         found.setdefault(grammar, []).append(names_of(tokens))

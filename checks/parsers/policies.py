@@ -29,7 +29,7 @@ from checks.shared.tally import Tally
 
 # How many lists of tokens a parser gets, and how many lines of steps are compared.
 LISTS, MOST = 24, 2_000
-CHECKED = ["-g", "-O1", "-fsanitize=address,undefined", "-fno-sanitize-recover=all"]
+CHECKED = ["-g", "-fsanitize=address,undefined", "-fno-sanitize-recover=all"]
 
 HEAD = """%%{
 #include <stdio.h>
@@ -148,7 +148,8 @@ def built(folder, name, words, text):
     Path(file).write_text(text)
     if running.ran([*words, "-o", parser, file]).returncode:
         return None
-    made = running.ran([compiler(), "-w", *CHECKED, "-o", program, parser])
+    how = CHECKED if name == "own" else []
+    made = running.ran([compiler(), "-w", *how, "-o", program, parser])
     if made.returncode:
         raise Differs(f"{name} is not compiled\n{made.stderr}")
     return program
@@ -232,17 +233,17 @@ def reduces_where_it_accepts(grammar):
     return any(len(it) == 1 for it in begun)
 
 
+def reduces_at_error_alone(grammar):
+    """Whether all that a state does is a reduction at `error`."""
+    cells = (list(it.items()) for it in Tables(grammar).cells)
+    return any(len(it) == 1 and it[0][0] == 1 and it[0][1][0] == "r" for it in cells)
+
+
 def is_for(way, grammar):
     """Whether the grammar has the same default reductions by the peer: byacc gives a state none
     that reduces at `error` alone, and one to the state that accepts."""
-    late = any(1 in rule.body[1:] for rule in grammar.rules)
-    lefts = {rule.left for rule in grammar.rules}
     return way.steps is not BYACC or not (
-        late
-        or reduces_where_it_accepts(grammar)
-        or any(
-            all(it.body[:1] == [1] for it in grammar.rules if it.left == left) for left in lefts
-        )
+        reduces_at_error_alone(grammar) or reduces_where_it_accepts(grammar)
     )
 
 
@@ -259,6 +260,28 @@ def compared(way, steps, is_cut):
     kept = [it for it in steps if it[0] not in way.leaves_out]
     ends = [at for at, it in enumerate(kept) if is_cut and it.startswith("e ")]
     return kept[: ends[0] + 1] if ends else kept
+
+
+def is_cyclic(grammar):
+    """Whether a nonterminal derives itself, as by the rule `s : s`: then reductions can go on
+    without an end."""
+    nullable = Canonical(grammar).nullable
+    steps = {
+        (rule.left, symbol)
+        for rule in grammar.rules
+        for at, symbol in enumerate(rule.body)
+        if nullable.issuperset(rule.body[:at] + rule.body[at + 1 :])
+    }
+    before = set()
+    while steps != before:
+        before = set(steps)
+        steps |= {(left, to) for left, by in before for at, to in before if by == at}
+    return any(left == symbol for left, symbol in steps)
+
+
+def is_endless(steps):
+    """Whether a parser was stopped before it ended."""
+    return not steps or not steps[-1].startswith("= ")
 
 
 def compare_reports(way, grammar, folder):
@@ -288,6 +311,9 @@ def compare(way, grammar, lists, ycc):
                 # it reduces without an end
                 continue
             made = own_steps(told(own, given), way)
+            if is_cut and is_endless(made) and is_cyclic(grammar):
+                # a conflict leaves a state one reduction, which it makes before it reads a token
+                continue
             wanted, made = (compared(way, it, is_cut) for it in (wanted, made))
             if made != wanted and not is_by_design(way, wanted, made):
                 names = " ".join(grammar.names[it] for it in given)

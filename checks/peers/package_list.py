@@ -137,7 +137,7 @@ GAWK_TESTS = "make -k -C test check > checked 2>&1\nls test | grep '^_' || true"
 JQ_BUILD = "autoreconf -i\n./configure --enable-maintainer-mode --without-oniguruma\nmake"
 
 # --- libxkbcommon: what needs X11, Wayland or a registry isn't built.
-XKB_LEFT_OUT = "x11 wayland xkbregistry docs bash-completion"
+XKB_LEFT_OUT = "x11 wayland xkbregistry docs"
 XKB_OPTIONS = " ".join(f"-Denable-{it}=false" for it in XKB_LEFT_OUT.split())
 XKB_BUILD = f"meson setup out {XKB_OPTIONS}\nninja -C out"
 XKB_ENDS = "[a-z0-9:-]+ +(OK|FAIL|SKIP|TIMEOUT|ERROR) "

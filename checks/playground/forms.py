@@ -68,7 +68,7 @@ class Ydebug:
         return Run(answer["status"], *(b64decode(answer[it]) for it in ("out", "errors")))
 
     def run(self, words, files, given):
-        """What comes of words behind the name of the program, of files and of standard input."""
+        """What comes of words after the name of the program, of files and of standard input."""
         return self.call(words_as_bytes(words), files_as_bytes(files), given)
 
 

@@ -104,7 +104,7 @@ class Gate(Planted):
                 self.assertEqual(said.count("low                   3     50     40"), count)
 
     def test_beside(self):
-        """A runner begins once what it waits for is proved and there, and is told in its turn."""
+        """A runner begins once what it waits for is proved and there, and is told after it."""
         proofs = "print('rt: low proved'); print('rt: high is kept: it'); print('rt: last proved')"
         words = python(f"print('it ran'); {WELL}")[1]
         for crates, libraries, begins in (

@@ -183,6 +183,34 @@ class Policies(Planted):
         self.assertEqual(policies.compared(consistent, steps, False), ["s", "e wrong", "x", "= 1"])
         self.assertEqual(policies.compared(most, steps, False), steps)
 
+    def test_steps_without_an_end(self):
+        """Steps that don't come to an end are left out only where a conflict leaves a state one
+        reduction, under the policy that has such states, and a nonterminal derives itself."""
+        texts = [
+            b"%token A\n%%\ns : s | A ;\n",
+            b"%token A\n%%\ns : t ;\nt : u s u | A ;\nu : ;\n",
+            b"%token A\n%%\ns : A | s A ;\n",
+        ]
+        cyclic = [policies.is_cyclic(grammar_in(it)) for it in texts]
+        self.assertEqual(cyclic, [True, True, False])
+        self.assertEqual([policies.is_endless(it) for it in (["s", "= 1"], ["s"])], [False, True])
+        consistent = policies.WAYS[3]._replace(steps=policies.BISON)
+        most = policies.WAYS[0]._replace(steps=policies.BISON)
+        right, endless = "l\ns\nr 2\na\n= 0\n", "l\ns\nr 2\nr 2\n"
+        for way, leaves_one, derives_itself in [
+            (consistent, True, True),
+            (consistent, True, False),
+            (consistent, False, True),
+            (most, True, True),
+        ]:
+            is_left_out = way is consistent and leaves_one and derives_itself
+            with (
+                mock.patch.object(policies, "leaves_one", lambda _, it=leaves_one: it),
+                mock.patch.object(policies, "is_cyclic", lambda _, it=derives_itself: it),
+            ):
+                self.assertEqual(self.fault(BISON, right, way), [])
+                self.assertEqual(bool(self.fault(BISON, endless, way)), not is_left_out)
+
 
 class Drivers(Planted):
     """Both drivers."""

@@ -43,7 +43,7 @@ class Reader:
         return value - (1 << width) if self.data[self.at - 1] & 64 else value
 
     def sized(self):
-        """Bytes behind their count."""
+        """Bytes after their count."""
         return self.take(self.number())
 
 
@@ -66,10 +66,10 @@ def signed(value):
 
 
 def sized(data):
-    """Bytes behind their count."""
+    """Bytes after their count."""
     return number(len(data)) + data
 
 
 def listed(items):
-    """Things behind their count."""
+    """Things after their count."""
     return number(len(items)) + b"".join(items)

@@ -24,7 +24,7 @@ def given(*texts: Text) -> List[Any]:
 
 
 def called(name: str, *words: Any) -> int:
-    """The status of a call; it raises want of memory and too many item sets."""
+    """The status of a call; it raises where memory ran out or there are too many item sets."""
     status: int = getattr(library.library(), f"sulderko_{name}")(*words)
     if status == NO_MEMORY:
         raise MemoryError("no memory for a call of libsulderko")

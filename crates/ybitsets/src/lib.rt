@@ -8,6 +8,6 @@ pub mod marks;
 pub mod order;
 pub mod packed;
 pub mod rows;
-pub mod slots;
+mod slots;
 pub mod spread;
 pub mod waiting;

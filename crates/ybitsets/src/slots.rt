@@ -11,7 +11,7 @@ use ysymbols::let_go;
 const BITS: usize = 64;
 
 /// The slots that are taken.
-pub struct Slots {
+pub(crate) struct Slots {
     words: Vec<u64>,
     /// How many words at the front are full.
     full: usize,
@@ -35,7 +35,7 @@ fn window(words: &[u64], at: usize) -> u64 {
 
 /// For each of the 64 displacements from `d` on a bit: set where some column meets a slot that is
 /// taken.
-pub fn blocked(words: &[u64], columns: &[usize], d: usize) -> u64
+pub(crate) fn blocked(words: &[u64], columns: &[usize], d: usize) -> u64
     requires near { d < 2 ^ 63 }
     requires columns { All (λ t. t < 2 ^ 63) columns.now }
 {
@@ -60,7 +60,7 @@ fn hash_of(columns: &[usize]) -> u64 {
 
 impl Slots {
     /// No slot is taken.
-    pub fn new(alloc: Global) -> Slots {
+    pub(crate) fn new(alloc: Global) -> Slots {
         Slots {
             words: Vec::new(alloc),
             full: 0,
@@ -69,13 +69,13 @@ impl Slots {
     }
 
     /// The words of bits: slot `k` is bit `k % 64` of word `k / 64`.
-    pub fn words(&self) -> &[u64] {
+    pub(crate) fn words(&self) -> &[u64] {
         self.words.as_slice()
     }
 
     /// A displacement below which these columns do not fit: that of the last row with the same
     /// columns, or the one that brings the first column to the first free slots.
-    pub fn start(&self, columns: &[usize]) -> usize {
+    pub(crate) fn start(&self, columns: &[usize]) -> usize {
         let Some(first) = columns.first() else {
             return 0;
         };
@@ -94,7 +94,7 @@ impl Slots {
     }
 
     /// Marks the slots of these columns at a displacement. It fails only when memory runs out.
-    pub fn take(&mut self, columns: &[usize], d: usize) -> Result<(), AllocError>
+    pub(crate) fn take(&mut self, columns: &[usize], d: usize) -> Result<(), AllocError>
         requires near { d < 2 ^ 63 }
         requires columns { All (λ t. t < 2 ^ 63) columns.now }
     {

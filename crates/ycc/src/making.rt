@@ -196,19 +196,6 @@ fn add_shown<'a>(
     Ok(())
 }
 
-/// Adds them for a file that can be looked at.
-fn add_seen<'a, 's>(
-    rt: &HostRuntime,
-    given: &Given<'_>,
-    tables: &Tables,
-    skeleton: &Skeleton<'_>,
-    seen: &'s Seen<'s>,
-    names: &'a Names,
-    texts: &mut Vec<Text<'a>>,
-) -> Result<(), Ending> {
-    add_shown(rt, given, tables, skeleton, Some(seen), names, texts)
-}
-
 /// Whether a report is wanted, and it is bison's.
 fn has_report(given: &Given<'_>, skeleton: &Skeleton<'_>) -> bool {
     let (parts, style) = (skeleton.parts, skeleton.style);
@@ -219,43 +206,27 @@ fn has_report(given: &Given<'_>, skeleton: &Skeleton<'_>) -> bool {
 fn add_all_shown<'a>(
     rt: &HostRuntime,
     given: &Given<'_>,
-    file: &File,
-    read: &Reading<'_>,
+    tables: &Tables,
     skeleton: &Skeleton<'_>,
+    seen: Option<&Seen<'_>>,
     names: &'a Names,
     texts: &mut Vec<Text<'a>>,
 ) -> Result<(), Ending> {
-    let (alloc, tables) = (rt.alloc(), &read.tables);
     if given.old_graph {
-        add_old_graph(alloc, tables, skeleton, names, texts)?;
+        add_old_graph(rt.alloc(), tables, skeleton, names, texts)?;
     }
-    let is_told = has_report(given, skeleton) || given.page.is_some();
-    if !is_told && given.graph.is_none() {
-        return Ok(());
+    if has_report(given, skeleton) || given.page.is_some() || given.graph.is_some() {
+        add_shown(rt, given, tables, skeleton, seen, names, texts)?;
     }
-    let own = match &read.imported {
-        None if is_told => import_of(rt, file)?,
-        _ => None,
-    };
-    let imported = read.imported.as_ref().or(own.as_ref());
-    if let (Some(imported), true) = (imported, is_told) {
-        let groups = groups_of(alloc, &file.bytes, &imported.lexemes)?;
-        let seen = Seen {
-            alloc,
-            source: &file.bytes,
-            imported,
-            groups: &groups,
-            tables: &read.tables,
-            parts: &read.parts,
-        };
-        return add_seen(rt, given, tables, skeleton, &seen, names, texts);
-    }
-    add_shown(rt, given, tables, skeleton, None, names, texts)
+    Ok(())
 }
 
-/// Writes texts to their files, unless one would be written over another that is read or written:
-/// then that is said.
+/// Writes texts to their files, where they are to be written, unless one would be written over
+/// another that is read or written: then that is said.
 fn write_all(rt: &HostRuntime, given: &Given<'_>, texts: &[Text<'_>]) -> Result<(), Ending> {
+    if given.dry {
+        return Ok(());
+    }
     let mut outputs = Vec::new(rt.alloc());
     for text in texts {
         outputs.push(Some(text.path))?;
@@ -300,7 +271,73 @@ fn begin(
     Ok(())
 }
 
-/// Makes all texts, and then writes their files.
+/// Tells what is found in a file, makes all texts, and then writes their files.
+fn tell_and_write<'a>(
+    rt: &HostRuntime,
+    given: &Given<'_>,
+    file: &File,
+    read: &Reading<'_>,
+    skeleton: Skeleton<'a>,
+    seen: Option<&Seen<'_>>,
+    names: &'a Names,
+) -> Result<(), Ending> {
+    let is_bison = skeleton.style.is_bison();
+    let is_sought = is_bison || given.kinds.ask_for_more();
+    let is_shown = has_report(given, &skeleton) || given.page.is_some();
+    let sought = if is_sought { seen } else { None };
+    let is_told = tell_found(rt, (given.kinds, is_bison), file, read, &skeleton, sought)?;
+    let mut texts = texts_of(rt.alloc(), given, &read.tables, skeleton, names)?;
+    let shown = if is_shown { seen } else { None };
+    add_all_shown(rt, given, &read.tables, &skeleton, shown, names, &mut texts)?;
+    write_all(rt, given, &texts)?;
+    match is_told && read.is_told {
+        true => Ok(()),
+        false => Err(Ending::Untold),
+    }
+}
+
+/// Does so with a file that can be looked at.
+fn finish_seen<'a, 's>(
+    rt: &HostRuntime,
+    given: &Given<'_>,
+    file: &File,
+    read: &Reading<'_>,
+    skeleton: Skeleton<'a>,
+    seen: &'s Seen<'s>,
+    names: &'a Names,
+) -> Result<(), Ending> {
+    tell_and_write(rt, given, file, read, skeleton, Some(seen), names)
+}
+
+/// Does so with a file, which is looked at where that is needed.
+fn finish<'a>(
+    rt: &HostRuntime,
+    given: &Given<'_>,
+    file: &File,
+    read: &Reading<'_>,
+    skeleton: Skeleton<'a>,
+    names: &'a Names,
+) -> Result<(), Ending> {
+    let (alloc, is_bison) = (rt.alloc(), skeleton.style.is_bison());
+    let is_needed = is_bison || given.kinds.ask_for_more() || given.page.is_some();
+    let own = import_of(rt, file, read, is_needed)?;
+    let imported = read.imported.as_ref().or(own.as_ref());
+    if let Some(imported) = imported {
+        let groups = groups_of(alloc, &file.bytes, &imported.lexemes)?;
+        let seen = Seen {
+            alloc,
+            source: &file.bytes,
+            imported,
+            groups: &groups,
+            tables: &read.tables,
+            parts: &read.parts,
+        };
+        return finish_seen(rt, given, file, read, skeleton, &seen, names);
+    }
+    tell_and_write(rt, given, file, read, skeleton, None, names)
+}
+
+/// Makes all files of a grammar file.
 pub fn write_files<'x>(
     rt: &HostRuntime,
     given: &Given<'_>,
@@ -330,14 +367,5 @@ pub fn write_files<'x>(
         states: &states,
         speech: speech.as_ref(),
     };
-    let is_told = tell_found(rt, (given.kinds, is_bison), file, read, &skeleton)?;
-    let mut texts = texts_of(alloc, given, tables, skeleton, &names)?;
-    add_all_shown(rt, given, file, read, &skeleton, &names, &mut texts)?;
-    if !given.dry {
-        write_all(rt, given, &texts)?;
-    }
-    match is_told && read.is_told {
-        true => Ok(()),
-        false => Err(Ending::Untold),
-    }
+    finish(rt, given, file, read, skeleton, &names)
 }

@@ -19,7 +19,6 @@ use yfindings::levels::find_levels;
 use yfindings::useless::find_useless;
 use yfindings::values::find_in_bodies;
 use yfindings::walk::{Conflicts, Walk};
-use yforeign::groups::groups_of;
 use yimport::import::{Imported, import};
 use yimport::refusal::Trouble;
 use yimport::symbols::Expected;
@@ -134,8 +133,16 @@ impl Wanted {
     }
 }
 
-/// The import of a file that was read without one.
-pub fn import_of(rt: &HostRuntime, file: &File) -> Result<Option<Imported>, Ending> {
+/// The import of a file that was read without one, where it is needed and succeeds.
+pub fn import_of(
+    rt: &HostRuntime,
+    file: &File,
+    read: &Reading<'_>,
+    is_needed: bool,
+) -> Result<Option<Imported>, Ending> {
+    if read.imported.is_some() || !is_needed {
+        return Ok(None);
+    }
     match import(rt.alloc(), &file.bytes) {
         Ok(imported) => Ok(Some(imported)),
         Err(Trouble::Refused(_)) => Ok(None),
@@ -230,37 +237,6 @@ fn place_of(finding: &Finding<'_>) -> usize {
     finding.at.map_or(0, |at| at.saturating_add(1))
 }
 
-/// Finds what is to be shown of a file, and says it in the order of the file, conflicts at the end:
-/// whether all was written. Where there is an error among it, the file is refused.
-pub fn tell_found(
-    rt: &HostRuntime,
-    (kinds, is_bison): (Kinds, bool),
-    file: &File,
-    read: &Reading<'_>,
-    skeleton: &Skeleton<'_>,
-) -> Result<bool, Ending> {
-    let (alloc, wanted) = (rt.alloc(), Wanted { kinds, is_bison });
-    let is_sought = is_bison || kinds.ask_for_more();
-    let own = match &read.imported {
-        None if is_sought => import_of(rt, file)?,
-        _ => None,
-    };
-    let imported = read.imported.as_ref().or(own.as_ref());
-    if let (Some(imported), true) = (imported, is_sought) {
-        let groups = groups_of(alloc, &file.bytes, &imported.lexemes)?;
-        let seen = Seen {
-            alloc,
-            source: &file.bytes,
-            imported,
-            groups: &groups,
-            tables: &read.tables,
-            parts: &read.parts,
-        };
-        return end(rt, file, read, skeleton, wanted, find_all(&seen, wanted)?);
-    }
-    end(rt, file, read, skeleton, wanted, Vec::new(alloc))
-}
-
 /// What is wrong with values in code, and what no parser has, in the order of the file.
 fn faults_of<'a>(alloc: Global, skeleton: &Skeleton<'a>) -> Made<Vec<Finding<'a>>> {
     let mut faults = Vec::new(alloc);
@@ -274,16 +250,22 @@ fn faults_of<'a>(alloc: Global, skeleton: &Skeleton<'a>) -> Made<Vec<Finding<'a>
     Ok(faults)
 }
 
-/// Tells what was found in a file, with what is wrong in it, and its conflicts.
-fn end(
+/// Finds what is to be shown of a file, where it can be looked at, and says it in the order of the
+/// file, with what is wrong in it, conflicts at the end: whether all was written. Where there is an
+/// error among it, the file is refused.
+pub fn tell_found(
     rt: &HostRuntime,
+    (kinds, is_bison): (Kinds, bool),
     file: &File,
     read: &Reading<'_>,
     skeleton: &Skeleton<'_>,
-    wanted: Wanted,
-    mut found: Vec<Finding<'_>>,
+    seen: Option<&Seen<'_>>,
 ) -> Result<bool, Ending> {
-    let alloc = rt.alloc();
+    let (alloc, wanted) = (rt.alloc(), Wanted { kinds, is_bison });
+    let mut found = Vec::new(alloc);
+    if let Some(seen) = seen {
+        found = find_all(seen, wanted)?;
+    }
     if !wanted.is_bison {
         found.retain(|finding| finding.kind.is_some());
     }

@@ -39,7 +39,7 @@ pub struct Code {
     pub span: usize,
     /// The sets: bit `t % 8` of byte `set * span + t / 8` says whether the token `t` is in a set.
     pub bits: Numbers,
-    /// The gotos over nonterminals, at the columns of states; the first nonterminal has row 0.
+    /// The gotos over nonterminals, in their order, at the columns of states.
     pub gotos: Comb,
     /// The goto over each nonterminal where it has none at the column of a state.
     pub targets: Numbers,

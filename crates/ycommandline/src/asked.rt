@@ -6,7 +6,7 @@ use crate::values::{
     NO_FOLDER, choice_in, drawn_in, grammar_in, input_in, is_given, kind_in, language_in,
     messages_in, most_of, number_of, page_in, value_of,
 };
-use crate::{check, conflicts, cover, table};
+use crate::{begin, check, conflicts, cover, table, testing};
 use clap::ArgMatches;
 use ydiagnostics::checking;
 use ydiagnostics::format::{Format, NO_FORM, form_of};
@@ -17,7 +17,6 @@ use yhtml::walk::Part;
 use yinput::grammars::GrammarFile;
 use yinput::language::LanguageFiles;
 use ymessages::run as messages;
-use yproject::{begin, testing};
 use yrules::rules;
 use ysentences::run as sentences;
 use ysentences::walk::Listed;

@@ -7,12 +7,12 @@ use std::rt::Files;
 use ydiagnostics::checking::{self, run_checking};
 use ydiagnostics::format::Format;
 use ydiagnostics::late::Defaults;
-use ydiagnostics::messaged::Messaged;
 use yfiles::diagnostic::Diagnostics;
 use yfiles::reading::Limited;
 use yinput::language::Input;
 use yinput::verdict::verdict_on;
 use yinput::verdict_text::{put_choice, put_plain_choice};
+use ymessages::messaged::Messaged;
 
 /// The exit status of a run over one input that is rejected.
 const REJECTED: u8 = 1;

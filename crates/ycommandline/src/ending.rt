@@ -45,16 +45,13 @@ impl From<AllocError> for Refused {
     }
 }
 
-/// Writes how the forms are asked for.
-fn put_usage<E: Write>(errors: &mut E) -> io::Result<()> {
-    errors.write_all(USAGE.as_bytes())?;
-    errors.write_all(FORMS.as_bytes())
-}
-
 /// Writes why nothing was done, where that isn't said yet.
 fn put_refused<E: Write>(refused: Refused, errors: &mut E) -> io::Result<()> {
     match refused {
-        Refused::Arguments => put_usage(errors),
+        Refused::Arguments => {
+            errors.write_all(USAGE.as_bytes())?;
+            errors.write_all(FORMS.as_bytes())
+        }
         Refused::Said | Refused::Helped | Refused::Unread => Ok(()),
         Refused::Wrong(why) => writeln!(errors, "ydebug: error: {why}"),
         Refused::Memory => errors.write_all(b"ydebug: no memory\n"),

@@ -1,10 +1,12 @@
 //! What is done with what a run is given: what its words ask for.
 
 use crate::asked::{Asked, SessionAsked, asked_in};
+use crate::begin::run_init;
 use crate::ending::{Ended, Refused};
 use crate::forms::{Form, command_of, form_of};
 use crate::given::Given;
 use crate::near::{put_near_form, put_refused};
+use crate::testing::run_test;
 use clap::ArgMatches;
 use clap::error::ErrorKind;
 use std::alloc::{AllocError, Global};
@@ -18,8 +20,6 @@ use yfrontend::import::run_import;
 use yhtml::page::run_page;
 use yinput::source::Source;
 use ymessages::run::run_errors;
-use yproject::begin::run_init;
-use yproject::testing::run_test;
 use yrules::rules::run_rules;
 use ysentences::run::run_sentences;
 

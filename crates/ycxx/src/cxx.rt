@@ -1,9 +1,7 @@
 //! A parser in C++, and how its fixed texts are written.
 
-use yexplain::reads::name_of;
 use yfiles::output::Output;
-use ylalr::ERROR;
-use yskeleton::{Skeleton, is_c_name};
+use yskeleton::Skeleton;
 use ysymbols::Sym;
 
 /// A parser in C++.
@@ -69,27 +67,9 @@ impl<'a> Cxx<'a> {
         }
     }
 
-    /// What a symbol is called in C++ as a kind, without what such names begin with; `None` where it
-    /// has no such name.
-    pub fn kind_name(&self, symbol: Sym) -> Option<&'a [u8]> {
-        let name = name_of(self.skeleton.grammar, symbol);
-        match symbol {
-            0 => Some(b"YYEOF"),
-            ERROR => Some(b"YYerror"),
-            _ if self.skeleton.parts.looks_of(symbol).is_made => None,
-            _ if is_c_name(name) => Some(name),
-            _ => None,
-        }
-    }
-
-    /// Writes the kind of a symbol by its name, or else by its number.
+    /// Writes the kind of a symbol by its name.
     pub fn put_kind(&self, out: &mut Output, symbol: Sym) {
-        match self.kind_name(symbol) {
-            Some(name) => {
-                let prefix = self.skeleton.style.symbol_prefix();
-                out.put_pieces(&[b"symbol_kind::", prefix, name]);
-            }
-            None => out.number(self.skeleton.kind_of(symbol)),
-        }
+        out.put("symbol_kind::");
+        self.skeleton.put_kind(out, symbol);
     }
 }

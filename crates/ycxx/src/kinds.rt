@@ -6,32 +6,12 @@ use ylalr::token_count;
 use ysymbols::Sym;
 
 impl<'a> Cxx<'a> {
-    /// Writes a member of the enum of kinds.
-    fn put_member(&self, out: &mut Output, name: &[u8], kind: usize) {
-        let prefix = self.skeleton.style.symbol_prefix();
-        out.put_pieces(&[b"        ", prefix, name, b" = "]);
-        out.number(kind);
-        out.put(",\n");
-    }
-
-    /// Writes the members of the enum of kinds: how many kinds of tokens there are, and each symbol
-    /// that has a name in C++.
+    /// Writes the members of the enum of kinds, before them how many kinds of tokens there are.
     pub fn put_kinds(&self, out: &mut Output) {
-        let (skeleton, tokens) = (&self.skeleton, self.skeleton.code.tokens);
         out.put("        YYNTOKENS = ");
-        out.number(tokens.saturating_add(1));
-        out.put_pieces(&[
-            b",\n        ",
-            skeleton.style.symbol_prefix(),
-            b"YYEMPTY = -2,\n",
-        ]);
-        for symbol in 0..skeleton.grammar.symbols() {
-            if let Some(name) = self.kind_name(symbol) {
-                self.put_member(out, name, skeleton.kind_of(symbol));
-            }
-        }
-        out.put_pieces(&[b"        ", skeleton.style.symbol_prefix(), b"YYUNDEF = "]);
-        out.number(tokens);
+        out.number(self.skeleton.code.tokens.saturating_add(1));
+        out.put(",\n");
+        self.skeleton.put_members(out, "        ");
     }
 
     /// Writes how a token is made that has a value with this tag, or none.

@@ -243,6 +243,8 @@ pub const MACHINE: &str = r##"
     if (yyn >= YYNSTATES)
       {
         yyn -= YYNSTATES;
+@lac         if (yyn == YYNRULES && !YYMEMBER (yystate, symbol_kind::^YYUNDEF))
+@lac           YYLOOK;
         if (yyn == YYNRULES)
           goto yyerrlab;
         if (yyn != 0)

@@ -37,11 +37,6 @@ pub struct Hit {
     pub condition: Condition,
 }
 
-/// Writes that there is no breakpoint of a number.
-fn put_missing<W: Write>(page: &mut Page<W>, number: usize) {
-    let _ = writeln!(page, "There is no breakpoint {number}; breaks lists them.");
-}
-
 impl Breaks {
     /// None.
     pub fn new(alloc: Global) -> Breaks {
@@ -97,7 +92,9 @@ impl Breaks {
                 let _ = self.kept.remove(index);
                 let _ = writeln!(page, "Breakpoint {number} is deleted.");
             }
-            None => put_missing(page, number),
+            None => {
+                let _ = writeln!(page, "There is no breakpoint {number}; breaks lists them.");
+            }
         }
     }
 

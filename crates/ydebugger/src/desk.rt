@@ -12,7 +12,7 @@ use crate::refusal::{Refusal, misused, put_refusal};
 use crate::reload::reload;
 use crate::screen::{Screen, Size};
 use crate::text::{list, put_ahead, put_upcoming};
-use crate::travel::{LAST, Move, condition_at_fault, move_of, name_at_fault};
+use crate::travel::{LAST, Move, condition_at_fault, move_of, until_in};
 use crate::verb::Verb;
 use crate::views::View;
 use crate::words::{Found, first_word};
@@ -107,7 +107,7 @@ impl<F: Files + AllocGlobal, W: Write> Desk<'_, F, W> {
                 Ok(())
             }
             Err(refusal) => {
-                let name = name_at_fault(text, refusal);
+                let name = condition_at_fault(until_in(text).unwrap_or(""), refusal);
                 self.view().refuse_name(name, refusal)
             }
         }

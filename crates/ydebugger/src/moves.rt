@@ -4,7 +4,7 @@ use crate::breaks::{Breaks, Hit};
 use crate::condition::Condition;
 use crate::refusal::fault_words;
 use crate::text::put_ahead;
-use crate::travel::{LAST, Move, heeds_breaks, is_wary, tells_each, until_of};
+use crate::travel::{LAST, Move, tells_each, until_of};
 use std::alloc::Global;
 use std::io::Write;
 use yexplain::reads::{Made, grammar_of};
@@ -94,7 +94,7 @@ struct Course<'a> {
     times: usize,
     /// The breakpoints at which it stops.
     breaks: Option<&'a Breaks>,
-    /// Whether it stops before an error is detected.
+    /// Whether it stops before an error is detected, where it made a step before that.
     wary: bool,
 }
 
@@ -231,8 +231,14 @@ fn course_of<'a>(
         } else {
             1
         },
-        breaks: heeds_breaks(wanted).then_some(breaks),
-        wary: is_wary(wanted),
+        breaks: match wanted {
+            Move::Step(_) | Move::Back(_) | Move::To(_) => None,
+            _ => Some(breaks),
+        },
+        wary: matches!(
+            wanted,
+            Move::Run | Move::RunFor(_) | Move::Next(_) | Move::Finish
+        ),
     }
 }
 

@@ -41,7 +41,7 @@ fn count_of(text: &str) -> Result<usize, Refusal> {
 }
 
 /// What stands after `until`, or a beginning of it.
-fn until_in(text: &str) -> Option<&str> {
+pub fn until_in(text: &str) -> Option<&str> {
     let (word, condition) = first_word(text);
     (!word.is_empty() && "until".starts_with(word)).then_some(condition)
 }
@@ -53,11 +53,6 @@ pub fn condition_at_fault(condition: &str, refusal: Refusal) -> &str {
         Refusal::NoCondition => word,
         _ => name,
     }
-}
-
-/// The word of a move for which its condition was refused.
-pub fn name_at_fault(text: &str, refusal: Refusal) -> &str {
-    condition_at_fault(until_in(text).unwrap_or(""), refusal)
 }
 
 /// The move that a command and its arguments mean.
@@ -86,19 +81,6 @@ pub fn until_of(session: &Session, wanted: Move) -> Option<Condition> {
         Move::Finish => Some(Condition::Top(session.view().stack_len())),
         _ => None,
     }
-}
-
-/// Whether a move stops before an error is detected, where it made a step before that.
-pub fn is_wary(wanted: Move) -> bool {
-    matches!(
-        wanted,
-        Move::Run | Move::RunFor(_) | Move::Next(_) | Move::Finish
-    )
-}
-
-/// Whether a move stops at breakpoints.
-pub fn heeds_breaks(wanted: Move) -> bool {
-    !matches!(wanted, Move::Step(_) | Move::Back(_) | Move::To(_))
 }
 
 /// Whether each step of a move is written.

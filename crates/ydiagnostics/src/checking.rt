@@ -4,7 +4,6 @@ use crate::document::Said;
 use crate::format::Format;
 use crate::inputs::{InputSheet, answer_of};
 use crate::late::Defaults;
-use crate::messaged::Messaged;
 use std::alloc::{AllocError, Global};
 use std::io::{self, Read, Write};
 use std::rt::Files;
@@ -13,6 +12,7 @@ use yfiles::diagnostic::{Diagnostics, Severity};
 use yfiles::reading::{Limited, all_bytes};
 use yinput::language::{Input, LanguageFiles};
 use yinput::verdict::{Verdict, verdict_on};
+use ymessages::messaged::Messaged;
 
 /// What is asked for: verdicts on inputs.
 #[derive(Clone, Copy)]

@@ -6,12 +6,11 @@ use crate::late::Late;
 use std::alloc::Global;
 use std::io;
 use yexplain::reads::Made;
-use yfaults::opening::word_place;
 use yfiles::diagnostic::{Diagnostic, Diagnostics};
-use yfiles::place::Place;
 use yinput::language::Input;
 use yinput::spelled::Spoken;
 use yinput::verdict::Verdict;
+use ymessages::messaged::place;
 use ysymbols::{Grammar, let_go};
 
 /// What comes of an input.
@@ -97,15 +96,6 @@ impl InputSheet {
             Verdict::Undecided => {}
         }
         Ok(sheet)
-    }
-}
-
-/// Says where the token of a rejection stands in a tokens file of these bytes; of a text that is said
-/// already.
-pub fn place(one: &mut Diagnostic, (path, source): (&str, &[u8]), input: &Input, number: usize) {
-    if input.text.is_none() {
-        let at = word_place(source, number).unwrap_or(source.len());
-        one.spot = Some(Place { path, source, at }.spot());
     }
 }
 

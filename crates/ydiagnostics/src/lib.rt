@@ -4,10 +4,9 @@
 //! `format` has the forms, and `sheet` what is said of a place. `kinds` has the conflicts, `causes`
 //! those that are alike, made in a `scene`, with what `sought` finds for them and with the `hints`
 //! on them, `told` says them in words, and `common` has what many have in common. `inputs` has the
-//! verdicts, `late` says where a parser with default reductions detects errors, `messaged` has the
-//! messages for them, and `document` writes all of it, in JSON by the `events` that make it.
-//! `report` and `checking` are the runs, and `begun` says what a report says in two steps, for a
-//! server.
+//! verdicts, `late` says where a parser with default reductions detects errors, and `document`
+//! writes all of it, in JSON by the `events` that make it. `report` and `checking` are the runs,
+//! and `begun` says what a report says in two steps, for a server.
 #![tactic(auto)]
 
 pub mod begun;
@@ -22,7 +21,6 @@ mod inputs;
 mod kinds;
 pub mod late;
 pub mod mends;
-pub mod messaged;
 pub mod report;
 mod scene;
 mod sheet;

@@ -41,7 +41,7 @@ pub enum Trouble<'a> {
 
 impl<'a> Trouble<'a> {
     /// A fault of a file with this source map and these left sides of which no list of tokens can
-    /// be made, or want of memory.
+    /// be made, or that memory ran out.
     pub fn of_fault(placed: PlacedFault, marks: Vec<Mark<'a>>, barren: Vec<usize>) -> Trouble<'a> {
         match placed.fault {
             GrammarFault::Memory => Trouble::Memory,
@@ -53,7 +53,7 @@ impl<'a> Trouble<'a> {
         }
     }
 
-    /// A fault of a file without syntax, or want of memory.
+    /// A fault of a file without syntax, or that memory ran out.
     pub fn of_text(alloc: Global, placed: PlacedFault) -> Trouble<'a> {
         Trouble::of_fault(placed, Vec::new(alloc), Vec::new(alloc))
     }

@@ -8,7 +8,7 @@ use yforeign::lexeme::Lexeme;
 use yimport::import::Imported;
 use yparts::parts::Parts;
 use yparts::refusal::Refused;
-use yskeleton::Misused;
+use yskeleton::{Misuse, Misused};
 use ysymbols::{Grammar, Sym};
 use ytables::Tables;
 
@@ -157,7 +157,7 @@ pub fn about_all<'a>(kind: Kind, what: What<'a>) -> Finding<'a> {
 /// A misuse, which is an error or only worth a warning.
 pub fn misuse<'a>(misused: Misused<'a>) -> Finding<'a> {
     let it = warning(Kind::Other, misused.at, What::Misused(misused));
-    if misused.misuse.is_harmless() {
+    if matches!(misused.misuse, Misuse::Misleading | Misuse::Stray) {
         it
     } else {
         Finding { kind: None, ..it }

@@ -6,7 +6,7 @@
 //! what is wrong with one. `slots` are the pieces of a message; `filling` writes one with what
 //! stands for its `$0`, `$1` and `$expected`, and `data` all of them as data. `written` is an
 //! input as a line, `sheet` what is written of a state, and `update` a whole file. `run` is
-//! `ydebug errors`.
+//! `ydebug errors`. `messaged` is a language with its messages, for who checks inputs.
 #![tactic(auto)]
 
 mod claims;
@@ -14,6 +14,7 @@ mod data;
 mod file;
 pub mod filling;
 mod inputs;
+pub mod messaged;
 pub mod messages;
 mod refusal;
 pub mod run;

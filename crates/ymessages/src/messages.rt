@@ -199,6 +199,17 @@ impl Messages {
         Some(span.of(&self.bytes))
     }
 
+    /// The first input of a part, as the file has it; one of comments alone has none.
+    pub fn input(&self, part: usize) -> Option<&[u8]> {
+        for span in &self.parts.get(part)?.lines {
+            let line = span.of(&self.bytes);
+            if !is_comment(line) {
+                return Some(line);
+            }
+        }
+        None
+    }
+
     /// The part whose message a state has, where it has one.
     pub fn part_of(&self, state: usize) -> Option<usize> {
         let claim = self.claims.all.get(self.claims.owner(state)?)?;

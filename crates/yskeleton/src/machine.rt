@@ -91,6 +91,10 @@ yyread_pushed_token:
   if (yyn >= YYNSTATES)
     {
       yyn -= YYNSTATES;
+@if lac
+      if (yyn == YYNRULES && !YYMEMBER (yystate, YYNTOKENS))
+        YYLOOK;
+@end
       if (yyn == YYNRULES)
         goto yyerrlab;
       if (yyn != 0)

@@ -116,7 +116,7 @@ impl Skeleton<'_> {
     }
 
     /// Writes all that stands before the tables, in bison's order. The declarations may be those
-    /// of a header.
+    /// of a header; kinds of symbols are there where texts of errors are made of them.
     fn put_bison_front(&self, out: &mut Output) {
         self.put_blocks(out, true);
         if let Some(header) = self.style.options.include {
@@ -124,7 +124,11 @@ impl Skeleton<'_> {
         } else {
             self.put_declarations(out);
         }
-        self.put_kinds(out);
+        if self.style.errors() != Errors::Simple {
+            out.put("\ntypedef enum\n{\n");
+            self.put_members(out, "  ");
+            out.put("\n} yysymbol_kind_t;\n");
+        }
         self.put_blocks(out, false);
         self.style.put_fixed(out, INCLUDES);
         self.put_calls(out);

@@ -28,13 +28,6 @@ pub enum Misuse {
     Stray,
 }
 
-impl Misuse {
-    /// Whether it is only worth a warning.
-    pub fn is_harmless(self) -> bool {
-        matches!(self, Misuse::Misleading | Misuse::Stray)
-    }
-}
-
 /// A member of a value.
 #[derive(Clone, Copy)]
 pub enum Member<'a> {

@@ -25,8 +25,31 @@ pub const READING: &str = r##"
    (n) = yygcheck[n] == (state) ? yygvalue[n] : yytarget[left])
 "##;
 
+/// Writes what may stand in a name of C, with `_` before it for all that goes before it and may not,
+/// and at the end for such.
+fn put_signs(out: &mut Output, text: &[u8]) {
+    let mut is_open = true;
+    for byte in text {
+        let is_sign = byte.is_ascii_alphanumeric() || *byte == b'_';
+        if is_sign && is_open {
+            out.put("_");
+        }
+        if is_sign {
+            out.put_bytes(&[*byte]);
+        }
+        is_open = !is_sign;
+    }
+    if is_open {
+        out.put("_");
+    }
+}
+
 /// What bison calls an end that a file doesn't name.
 const END_LABEL: &[u8] = b"\"end of file\"";
+/// What bison calls a token with the name of what is no token, where the file has no string for it.
+const UNDEFINED_LABEL: &[u8] = b"\"invalid token\"";
+/// That name.
+const UNDEFINED: &[u8] = b"YYUNDEF";
 
 /// Whether an array of names has them as in the file, or without quotes.
 #[derive(Clone, Copy, PartialEq, Eq)]
@@ -52,10 +75,13 @@ impl Skeleton<'_> {
     /// Writes what a symbol is called as an item of an array: by the string that a file has for it,
     /// or what stands there between `_(` and `)`; bison has one for the end too.
     fn put_item(&self, out: &mut Output, symbol: Sym, spelled: Spelled) {
-        let label = match self.parts.looks_of(symbol).label {
+        let is_undefined = name_of(self.grammar, symbol) == UNDEFINED && self.style.is_bison();
+        let looks = self.parts.looks_of(symbol);
+        let label = match looks.label {
             Some([b'_', b'(', text @ .., b')']) => Some(text.trim_ascii()),
             None if spelled == Spelled::Called => usual_call(self.grammar, symbol),
             None if symbol == 0 && self.style.is_bison() => self.own_end().or(Some(END_LABEL)),
+            None if is_undefined => looks.label.or(Some(UNDEFINED_LABEL)),
             label => label,
         };
         out.put("  \"");
@@ -200,34 +226,41 @@ impl Skeleton<'_> {
         out.put("  return yysymbols[yysymbol];\n}\n");
     }
 
-    /// Writes the kind of a symbol that has a name in C.
-    fn put_kind(&self, out: &mut Output, name: &[u8], kind: usize) {
-        if is_c_name(name) {
-            out.put_pieces(&[b"  ", self.style.symbol_prefix(), name, b" = "]);
-            out.number(kind);
-            out.put(",\n");
-        }
-    }
-
-    /// Writes the kinds of symbols as an enum, where texts of errors are made of them: those that
-    /// bison has beside those of the file too.
-    pub fn put_kinds(&self, out: &mut Output) {
-        if self.style.errors() == Errors::Simple {
+    /// Writes what the kind of a symbol is called: by its name, or, where it has none in C, by its
+    /// number and what of its text may stand in a name, as bison calls it. So is a token that has
+    /// the name of the kind of what is no token.
+    pub fn put_kind(&self, out: &mut Output, symbol: Sym) {
+        let (prefix, looks) = (self.style.symbol_prefix(), self.parts.looks_of(symbol));
+        let name: &[u8] = match symbol {
+            END => b"YYEOF",
+            ERROR => b"YYerror",
+            _ if symbol == token_count(self.grammar) => b"YYACCEPT",
+            _ if looks.is_made => looks.label.unwrap_or(b""),
+            _ => name_of(self.grammar, symbol),
+        };
+        if is_c_name(name) && name != UNDEFINED {
+            out.put_pieces(&[prefix, name]);
             return;
         }
-        let prefix = self.style.symbol_prefix();
-        out.put_pieces(&[b"\ntypedef enum\n{\n  ", prefix, b"YYEMPTY = -2,\n"]);
-        self.put_kind(out, b"YYEOF", 0);
-        self.put_kind(out, b"YYerror", ERROR);
-        for symbol in 2..self.grammar.symbols() {
-            if !self.parts.looks_of(symbol).is_made {
-                let kind = self.kind_of(symbol);
-                self.put_kind(out, name_of(self.grammar, symbol), kind);
-            }
+        let front: &[u8] = if prefix.is_empty() { b"_" } else { prefix };
+        out.put_bytes(front);
+        out.number(self.kind_of(symbol));
+        put_signs(out, name);
+    }
+
+    /// Writes the members of the enum of kinds, each by its name and number.
+    pub fn put_members(&self, out: &mut Output, margin: &str) {
+        let (margin, prefix) = (margin.as_bytes(), self.style.symbol_prefix());
+        out.put_pieces(&[margin, prefix, b"YYEMPTY = -2,\n"]);
+        for symbol in 0..self.grammar.symbols() {
+            out.put_bytes(margin);
+            self.put_kind(out, symbol);
+            out.put(" = ");
+            out.number(self.kind_of(symbol));
+            out.put(",\n");
         }
-        out.put_pieces(&[b"  ", prefix, b"YYUNDEF = "]);
+        out.put_pieces(&[margin, prefix, b"YYUNDEF = "]);
         out.number(self.code.tokens);
-        out.put("\n} yysymbol_kind_t;\n");
     }
 
     /// Writes how many there are of what.

@@ -4,13 +4,13 @@ use crate::expected::Expected;
 use std::alloc::Global;
 use std::io::{self, Write};
 use std::rt::Files;
-use ydiagnostics::messaged::Messaged;
 use yfiles::diagnostic::Diagnostics;
 use yinput::fault::Fault;
 use yinput::grammars::GrammarFile;
 use yinput::language::Input;
 use yinput::verdict::Verdict;
 use yinput::verdict_text::UNDECIDED;
+use ymessages::messaged::Messaged;
 
 /// What came of an input.
 #[derive(Drop)]

@@ -7,12 +7,12 @@ use crate::tally::Tally;
 use std::alloc::AllocError;
 use std::io::{self, Write};
 use std::rt::Files;
-use ydiagnostics::messaged::Messaged;
 use yfaults::opening::Opened;
 use yfiles::diagnostic::Diagnostics;
 use yfiles::reading::Limited;
 use yinput::language::{Language, LanguageFiles};
 use yinput::verdict::verdict_on;
+use ymessages::messaged::Messaged;
 
 /// The folder of inputs that are to be accepted.
 const GOOD: &str = "good";
@@ -169,7 +169,7 @@ pub fn run_test<F: Files + AllocGlobal + Clone + Drop, W: Write, E: Write>(
     let mut tally = Tally::new(alloc, &told)?;
     asked.try_all(rt, &told, (&good, true), &mut tally, out)?;
     asked.try_all(rt, &told, (&bad, false), &mut tally, out)?;
-    tally.put_messages(out, &told)?;
+    tally.put_messages(alloc, out, &told)?;
     let Language { opened, .. } = told.into_language();
     let Opened { tables, .. } = opened;
     tally.put_end(alloc, out, tables)?;

@@ -1,17 +1,18 @@
 //! A language with the messages for its errors.
 
-use crate::inputs::place;
+use crate::filling::filled;
+use crate::messages::Messages;
 use std::alloc::Global;
 use std::io;
 use std::rt::Files;
-use yfiles::diagnostic::Diagnostics;
+use yfaults::opening::word_place;
+use yfiles::diagnostic::{Diagnostic, Diagnostics};
+use yfiles::place::Place;
 use yfiles::reading::Limited;
 use yinput::language::{Input, Language, LanguageFiles};
 use yinput::reported::{MOST_STEPS, Reporting};
 use yinput::spelled::Spoken;
 use yinput::verdict::{Rejection, Verdict};
-use ymessages::filling::filled;
-use ymessages::messages::Messages;
 use ysymbols::let_go;
 
 /// A language, and the messages for its errors, where there are some.
@@ -43,6 +44,15 @@ fn message_of(
     match messages.of(rejection.state) {
         Some(message) => filled(alloc, spoken, message, input, rejection).map(Some),
         None => Ok(None),
+    }
+}
+
+/// Says where the token of a rejection stands in a tokens file of these bytes; of a text that is said
+/// already.
+pub fn place(one: &mut Diagnostic, (path, source): (&str, &[u8]), input: &Input, number: usize) {
+    if input.text.is_none() {
+        let at = word_place(source, number).unwrap_or(source.len());
+        one.spot = Some(Place { path, source, at }.spot());
     }
 }
 

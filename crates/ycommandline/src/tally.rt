@@ -2,12 +2,64 @@
 
 use std::alloc::{AllocError, Global};
 use std::io::{self, Write};
-use ydiagnostics::messaged::Messaged;
-use yexplain::reads::set;
+use yexplain::distinct::Distinct;
+use yexplain::reads::{Made, set};
 use yinput::language::Input;
 use yinput::verdict::Verdict;
+use ymessages::messaged::Messaged;
+use ymessages::messages::Messages;
 use ysentences::walk::{put_counts, walk_all};
 use ytables::Tables;
+
+/// The first line of a text.
+fn first_line(text: &[u8]) -> &[u8] {
+    let newline = text.iter().position(|b| *b == b'\n');
+    text.get(..newline.unwrap_or(text.len())).unwrap_or(text)
+}
+
+/// Messages that no input met: their first lines, each once, with the parts that begin so.
+#[derive(Drop)]
+struct Unmet<'a> {
+    lines: Distinct<&'a [u8]>,
+    parts: Vec<Vec<usize>>,
+}
+
+impl<'a> Unmet<'a> {
+    /// Each message was met.
+    fn new(alloc: Global) -> Unmet<'a> {
+        Unmet {
+            lines: Distinct::new(alloc),
+            parts: Vec::new(alloc),
+        }
+    }
+
+    /// The message of a part, which begins with this line, was not met.
+    fn add(&mut self, alloc: Global, part: usize, line: &'a [u8]) -> Made<()> {
+        let (number, is_new) = self.lines.add(line)?;
+        if is_new {
+            self.parts.push(Vec::new(alloc))?;
+        }
+        if let Some(parts) = self.parts.get_mut(number) {
+            parts.push(part)?;
+        }
+        Ok(())
+    }
+
+    /// Writes each line, and below it the first input of each part.
+    fn put<W: Write>(&self, out: &mut W, messages: &Messages) -> io::Result<()> {
+        for (number, line) in self.lines.all().iter().enumerate() {
+            out.write_all(b"not met: ")?;
+            out.write_all(line)?;
+            out.write_all(b"\n")?;
+            for part in self.parts.get(number).map_or(&[][..], Vec::as_slice) {
+                out.write_all(b"    ")?;
+                out.write_all(messages.input(*part).unwrap_or(b""))?;
+                out.write_all(b"\n")?;
+            }
+        }
+        Ok(())
+    }
+}
 
 /// What tests come to, up to one of them.
 #[derive(Drop)]
@@ -60,30 +112,32 @@ impl Tally {
         }
     }
 
-    /// Writes how many messages were met, where there are some, and the first line of each other
-    /// one.
-    pub fn put_messages<W: Write>(&self, out: &mut W, told: &Messaged) -> io::Result<()> {
+    /// Writes how many messages were met, where there are some, and what others say, with the first
+    /// input of each that says it.
+    pub fn put_messages<W: Write>(
+        &self,
+        alloc: Global,
+        out: &mut W,
+        told: &Messaged,
+    ) -> io::Result<()> {
         let Some(messages) = &told.messages else {
             return Ok(());
         };
         let (mut all, mut met): (usize, usize) = (0, 0);
+        let mut unmet = Unmet::new(alloc);
         for (part, is_met) in self.met.iter().enumerate() {
-            if messages.message(part).is_some() {
-                all = all.saturating_add(1);
-                met = met.saturating_add(usize::from(*is_met));
+            let Some(message) = messages.message(part) else {
+                continue;
+            };
+            all = all.saturating_add(1);
+            if *is_met {
+                met = met.saturating_add(1);
+            } else {
+                unmet.add(alloc, part, first_line(message))?;
             }
         }
         writeln!(out, "messages {met} of {all}")?;
-        for (part, is_met) in self.met.iter().enumerate() {
-            if let (Some(message), false) = (messages.message(part), *is_met) {
-                let newline = message.iter().position(|b| *b == b'\n');
-                let first = message.get(..newline.unwrap_or(message.len()));
-                out.write_all(b"not met: ")?;
-                out.write_all(first.unwrap_or(message))?;
-                out.write_all(b"\n")?;
-            }
-        }
-        Ok(())
+        unmet.put(out, messages)
     }
 
     /// Writes what the inputs that are to be accepted use of tables, and how many tests passed.
