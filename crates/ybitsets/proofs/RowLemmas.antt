@@ -391,7 +391,7 @@ after_none m r c k step hw hz hs le lt h =
     (sym same) ∙ h.bit in
     omega (arith, w, z)
 
--- where the row lacks the column, the next set bit stands behind it
+-- where the row lacks the column, the next set bit stands after it
 pub after_further : (m : BitRows) (r c : ℕ) → r < m.height → c < m.width → word_of m r c / 2 ^
     (c % 64) < 2 ^ 64 → (Holds m r c → ⊥) → 0 < trailing_zeros w64 (word_of m r c / 2 ^ (c % 64))
 after_further m r c hr hc hw absent = go (eq-zero-or-pos (word_of m r c / 2 ^ (c % 64)))

@@ -49,7 +49,7 @@ impl Reading<'_> {
 
     /// Finds the numbers of conflicts that the file doesn't expect, and those of which it expects
     /// nothing. In bison's dialect `%expect` expects no reduce/reduce conflicts, and `%expect-rr`
-    /// is for another kind of parser.
+    /// is for GLR parsers.
     fn find_conflicts<'a>(
         &self,
         alloc: Global,

@@ -117,7 +117,7 @@ bits_pushed bytes b k f len old new t l = go (less_or_not t (8 * k))
         let place : 8 * k + t % 8 ≡ t = omega (arith, parts, at, len) in
         ap (λ w. nat_eq (bit_at w (t % 8)) 1) seam ∙ new (t % 8) low ∙ ap f place
 
--- bits of bytes behind others, and before others
+-- bits of bytes after others, and before others
 pub bits_behind : (bytes set : List ℕ) (at t : ℕ) → length bytes ≡ at →
     bit_of (bytes ++ set) at t ≡ bit_of set 0 t
 bits_behind bytes set at t e = ap (λ w. nat_eq (bit_at w (t % 8)) 1)
@@ -142,7 +142,7 @@ byte_within n count span t h l =
     let more : (n + 1) * span ≡ n * span + span = grind arith in
     omega (arith, parts, rows, more, l)
 
--- a set behind the others leaves them as they are
+-- a set after the others leaves them as they are
 pub appended_keeps : (old new : SetsValue) (set : List ℕ) → IsSets old → new.span ≡ old.span →
     new.bytes ≡ old.bytes ++ set → new.count ≡ old.count + 1 → KeepsSets old new
 appended_keeps old new set s e b c = record {

@@ -14,7 +14,7 @@ use Rattle.ycode.specs.Symbols.{StandsBefore}
 use Rattle.ycode.proofs.EntrySteps.{below_or_last}
 use Rattle.ycode.proofs.CellLoops.{before, last}
 
--- behind x some item has moved over it
+-- after x some item has moved over it
 kernel : (g : ContextFree) (x : ℕ) (p : List ℕ) {s : List ℕ} {r d a : ℕ} → Valid g s r d a →
     s ≡ x ∷ p → (r' d' a' : ℕ) × Valid g (x ∷ p) r' (suc d') a'
 kernel g x p start e = cc

@@ -26,7 +26,7 @@ byte_for members at = sum_by (λ k. if slice_index_or members (at + k) false the
 abbrev pub bytes_for : ℕ → List Bool → List ℕ
 bytes_for span members = map (λ k. byte_for members (8 * k)) (range_with_len 0 span)
 
--- the sets with one more behind them
+-- the sets with one more after them
 abbrev pub and_set : SetsValue → List ℕ → SetsValue
 and_set s set = record {
   span = s.span;
@@ -35,7 +35,7 @@ and_set s set = record {
   others = s.others ++ set ∷ [];
 }
 
--- the sets with one more behind them, unless it is there; set 0 stands for no other
+-- the sets with one more after them, unless it is there; set 0 stands for no other
 abbrev pub with_set : SetsValue → List ℕ → SetsValue
 with_set s set = if is_among s.others set then s else and_set s set
 

@@ -33,7 +33,7 @@ use Rattle.ydeclarations.proofs.TokenSteps.{listed_token}
 abbrev pub place_of : Listed → ℕ
 place_of l = l.who.at
 
--- behind so many listings, the first that gives a second precedence stands at the place
+-- after so many listings, the first that gives a second precedence stands at the place
 abbrev pub Later : List Listed → ℕ → ℕ → Type 0
 Later xs i at = SecondAt (map listed_view (take i xs)) (map listed_view (drop i xs))
     (map place_of (drop i xs)) at
@@ -49,7 +49,7 @@ here : (xs : List Listed) (i : ℕ) (d : Listed) (at : ℕ) → i < length xs �
 here xs i d at h s = subst (λ (ys : List Listed). SecondAt (map listed_view (take i xs))
     (map listed_view ys) (map place_of ys) at) (sym (drop_more xs i d h)) s
 
--- where the listing there gives none, the first stands behind it
+-- where the listing there gives none, the first stands after it
 pub goes_on : (xs : List Listed) (i : ℕ) (d : Listed) (at : ℕ) → i < length xs →
     (SecondThere xs i d → ⊥) → Later xs (i + 1) at → Later xs i at
 goes_on xs i d at h n s = here xs i d at h (inr (

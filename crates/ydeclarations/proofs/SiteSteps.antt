@@ -224,7 +224,7 @@ listed_sites ds xs e = seen xs ∙ ap (λ (z : List CodeEntry). map entry_at z) 
 abbrev OfRule : Site → Type 0
 OfRule s = is_of_rule s.role ≡ true
 
--- what stands behind the left side of a rule
+-- what stands after the left side of a rule
 abbrev tail_sites : List CodeBodyPart → Option Occurrence → List Site
 tail_sites bs p = flat_map body_part_sites bs ++ one (occurrence_site prec_name) p
 
@@ -245,7 +245,7 @@ left_piece c = go c.left
 pub left_sites : Sees left_of rule_text_sites lefts_in name_at
 left_sites = sees left_of rule_text_sites lefts_in name_at left_piece
 
--- a rule has what stands behind its left side, where that side is none
+-- a rule has what stands after its left side, where that side is none
 tail_piece : {A : Type 0} (f : Role → Option A) → ((n : List ℕ) → f (left_side n) ≡ None) →
     (c : CodeRuleText) {v : List (A × ℕ)} → v ≡ select f (tail_sites c.body.items c.prec) →
     v ≡ select f (rule_text_sites c)

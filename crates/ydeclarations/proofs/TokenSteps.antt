@@ -225,7 +225,7 @@ said_listed f (l ∷ ls) n h = go (bytes_eq n (printed_name l.who)) refl h (said
 
 -- ---- numbers of names
 
--- the number stays when names are put behind
+-- the number stays when names are put after
 pub number_stays : (ns more : List Name) (n : Name) → is_among ns n ≡ true →
     number_in (ns ++ more) n ≡ number_in ns n
 number_stays [] more n h = absurd (false_true h)
@@ -254,7 +254,7 @@ number_behind (m ∷ ns) more n h = go (bytes_eq n m) refl (number_behind ns mor
         again (subst (λ c. (c || is_among ns n) ≡ false) q k) in
         rw q (omega arith)
 
--- what is with_name goes behind
+-- what is with_name goes after
 pub noted_behind : (ns ms : List Name) → (more : List Name) × (with_names ns ms ≡ ns ++ more)
 noted_behind ns [] = ([], sym (append_none ns))
   where

@@ -119,7 +119,7 @@ uses_of c = flat_map body_part_identifier c.body ++ prec_of c
 abbrev pub uses : Tree → List Identifier
 uses t = flat_map uses_of t.rule_texts
 
--- those behind `%prec`
+-- those after `%prec`
 abbrev pub precs : Tree → List Identifier
 precs t = flat_map prec_of t.rule_texts
 
@@ -196,7 +196,7 @@ split_last (action text ∷ []) = ([], Some text)
 split_last (symbol i ∷ []) = (symbol i ∷ [], None)
 split_last (i ∷ j ∷ items) = let r = split_last (j ∷ items) in (i ∷ r.0, r.1)
 
--- the final action is the one behind the precedence, or else the last part of the body
+-- the final action is the one after the precedence, or else the last part of the body
 abbrev pub final_of : Option (List ℕ) → List BodyPart → List BodyPart × Option (List ℕ)
 final_of (Some text) items = (items, Some text)
 final_of None items = split_last items
@@ -254,7 +254,7 @@ bare_of t = record {
   rules = map (numbered_rule (symbols t)) (rules t);
 }
 
--- The token s is the last of a body: no token stands behind it.
+-- The token s is the last of a body: no token stands after it.
 pub record IsLastToken (tokens : ℕ) (body : List ℕ) (s : ℕ) : Type 0 where
   pub before : List ℕ
   pub after : List ℕ

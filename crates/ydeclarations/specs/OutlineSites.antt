@@ -103,7 +103,7 @@ is_of_rule (used i) = true
 is_of_rule (prec_name i) = true
 is_of_rule _ = false
 
--- The lists are those of the sites of declarations, and of the sites of rules behind them.
+-- The lists are those of the sites of declarations, and of the sites of rules after them.
 pub record OutlineSites (o : Outline) (ds rs : List Site) : Type 0 where
   pub of_declarations : AllByRecursion (λ s. is_of_rule s.role ≡ false) ds
   pub of_rules : AllByRecursion (λ s. is_of_rule s.role ≡ true) rs

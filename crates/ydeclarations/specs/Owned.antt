@@ -68,12 +68,12 @@ pub record HasFirst (ns : List Name) (table : List (Option ℕ)) (ls : List List
   pub said : (n : Name) → number_in ns n < length ns →
       slice_index_or table (number_in ns n) None ≡ first_or (said_of small_number ls n) None
 
--- the listing behind i others gives a number that is wrong
+-- the listing after i others gives a number that is wrong
 abbrev pub GivesWrong : List Listing → ℕ → Type 0
 GivesWrong ls i = (l : Listing) × (m : ℕ) × (slice_get ls i ≡ Some l) × (digits_number l ≡ Some m)
     × IsWrong (take i ls) l m
 
--- of so many listings, the first that gives a wrong number is the one behind so many others
+-- of so many listings, the first that gives a wrong number is the one after so many others
 abbrev pub IsFirstWrong : List Listing → ℕ → Option ℕ → Type 0
 IsFirstWrong ls upto None = (j : ℕ) → j < upto → GivesWrong ls j → ⊥
 IsFirstWrong ls upto (Some i) = GivesWrong ls i × ((j : ℕ) → j < i → GivesWrong ls j → ⊥)

@@ -36,20 +36,20 @@ AllAt P [] ps = ps ≡ []
 AllAt P (s ∷ ss) ps = (P s.role × ((rest : List ℕ) × (ps ≡ s.at ∷ rest) × AllAt P ss rest))
     ⊎ ((P s.role → ⊥) × AllAt P ss ps)
 
--- a left side or a name behind `%type` that is a token
+-- a left side or a name after `%type` that is a token
 abbrev pub is_token_left : Tree → Role → Bool
 is_token_left t (typed n) = is_token t n
 is_token_left t (left_side n) = is_token t n
 is_token_left t _ = false
 
--- a name or literal in a body, behind `%prec` or behind `%type` that is no symbol
+-- a name or literal in a body, after `%prec` or after `%type` that is no symbol
 abbrev pub is_undefined : Tree → Role → Bool
 is_undefined t (typed n) = not (is_among (symbols t) n)
 is_undefined t (used i) = not (is_among (symbols t) (printed_name i))
 is_undefined t (prec_name i) = not (is_among (symbols t) (printed_name i))
 is_undefined t _ = false
 
--- a name behind `%prec` that is a nonterminal
+-- a name after `%prec` that is a nonterminal
 abbrev pub is_bad_prec : Tree → Role → Bool
 is_bad_prec t (prec_name i) = is_nonterminal t (printed_name i)
 is_bad_prec t _ = false
@@ -97,13 +97,13 @@ HoldsNumber t n m = ((j : ℕ) × (l : Listing) × (slice_get (listings t) j ≡
     × (listed_name l ≡ n) × (digits_number l ≡ Some m))
     ⊎ ((is_token t n ≡ true) × (own_number t n ≡ Some m))
 
--- the listing behind i others gives a number that is wrong, or that another token holds too
+-- the listing after i others gives a number that is wrong, or that another token holds too
 abbrev pub GivesBad : Tree → ℕ → Type 0
 GivesBad t i = (l : Listing) × (m : ℕ) × (slice_get (listings t) i ≡ Some l)
     × (digits_number l ≡ Some m) × (IsWrong (take i (listings t)) l m
     ⊎ ((n : Name) × (n ≢ listed_name l) × HoldsNumber t n m))
 
--- The first bad number is that of the listing behind i others, and it stands at the place, where
+-- The first bad number is that of the listing after i others, and it stands at the place, where
 -- the numbers stand at these places.
 pub record IsFirstBad (t : Tree) (ps : List ℕ) (at : ℕ) : Type 0 where
   pub i : ℕ

@@ -44,7 +44,7 @@ fn expected_in(seen: &Seen<'_>, lexemes: &[Lexeme], wanted: Directive) -> Option
 }
 
 /// Finds the rules that expect other numbers of conflicts than they have, or reduce/reduce
-/// conflicts, which are for another kind of parser.
+/// conflicts, which are for GLR parsers.
 pub fn find_expected<'a>(
     seen: &Seen<'a>,
     bodies: &[Body<'a>],

@@ -30,8 +30,8 @@ pub enum Directive {
     Skeleton,
     /// Taken out.
     Aside(Shape),
-    /// Refused: another kind of parser.
-    OtherParser,
+    /// Refused: it is of GLR parsers.
+    Glr,
     /// Refused: rules without a precedence.
     NoDefault,
     /// Any other word.
@@ -73,11 +73,8 @@ const WORDS: [(Directive, &str); 25] = [
     (Directive::Define, "define"),
     (Directive::Skeleton, "skeleton"),
     (Directive::NoDefault, "no-default-prec"),
-    (Directive::OtherParser, "glr-parser dprec merge"),
-    (
-        Directive::OtherParser,
-        "nondeterministic-parser semantic-parser",
-    ),
+    (Directive::Glr, "glr-parser dprec merge"),
+    (Directive::Glr, "nondeterministic-parser semantic-parser"),
     (Directive::Aside(Shape::NamedBraces), "code"),
     (Directive::Aside(Shape::Braces), BEFORE_BRACES),
     (

@@ -34,7 +34,7 @@ rules_later k (c ∷ cs) =
     let b = rules_later (body_from k (final_of c.last c.body).0).next cs in
     omega arith
 
--- behind an action there is one more
+-- after an action there is one more
 pub action_room : (xs : List CodeBodyPart) (i k m n : ℕ) (t : BracedText) (d : CodeBodyPart) →
     get_or xs i d ≡ items.Action t → i < length xs →
     (body_from k (map body_part_view (drop i xs))).next ≡ m → m < n → k + 1 < n
@@ -70,7 +70,7 @@ part_read : (cs : List CodeBodyPart) (i : ℕ) (d : CodeBodyPart) → i < length
     ≡ body_part_view (get_or cs i d) ∷ map body_part_view (drop (i + 1) cs)
 part_read cs i d h = ap (λ (ys : List CodeBodyPart). map body_part_view ys) (drop_more cs i d h)
 
--- what a part adds, and what is left to be added behind it
+-- what a part adds, and what is left to be added after it
 abbrev Pushes : {A B : Type 0} → (A → B) → (Body → List A) → Type 0
 Pushes {A} {B} f adds = (cs : List CodeBodyPart) (i k n : ℕ) (d : CodeBodyPart)
     (old new all : List B) → i < length cs →
@@ -135,7 +135,7 @@ next_pushed cs i k n m d h e w =
     ∙ ap (λ (ys : List BodyPart). (body_from k ys).next) (sym (part_read cs i d h))
     ∙ w
 
--- the number behind a part is no more than that behind the body
+-- the number after a part is no more than that after the body
 pub part_room : (cs : List CodeBodyPart) (i k m n : ℕ) (d : CodeBodyPart) → i < length cs →
     (body_from k (map body_part_view (drop i cs))).next ≡ m → m < n →
     (body_from k (body_part_view (get_or cs i d) ∷ [])).next < n
@@ -168,7 +168,7 @@ rule_text_counts cs i k next m x xs r h e f w =
     ∙ sym (ap (λ (ys : List CodeRuleText). inner_after k (map rule_text_view ys))
     (rule_text_read cs i x r h)) ∙ w
 
--- behind its body there is room
+-- after its body there is room
 pub rule_text_room : (cs : List CodeRuleText) (i k m n : ℕ) (x : CodeRuleText) (xs : List BodyPart)
     →
     x ≡ get_or cs i x → i < length cs →

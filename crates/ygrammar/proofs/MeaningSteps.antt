@@ -107,7 +107,7 @@ unproductive t (refused.Mistake what at) g q (w, (s, a, b, c)) = (
 )
 unproductive t refused.Memory g q p = tt
 
--- a symbol behind the tokens that isn't marked
+-- a symbol after the tokens that isn't marked
 pub barren_holds : (t : Tree) (g : ContextFree) (marks : List Bool) (s : ℕ) → g ≡ bare_of t →
     ((k : ℕ) → k < g.symbols → (IsMarked marks k ↔ Productive g k)) → g.tokens ≤ s →
     s < g.symbols → get_or marks s false ≡ false → Holds t Unproductive

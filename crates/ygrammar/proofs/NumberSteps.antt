@@ -210,7 +210,7 @@ get_last (y ∷ xs) x = get_last xs x
 some_same : (x y : ℕ) (o : Option ℕ) → o ≡ Some x → o ≡ Some y → x ≡ y
 some_same x y o e f = some_one o o e f refl
 
--- what holds of the numbers so far holds with one more behind them
+-- what holds of the numbers so far holds with one more after them
 least_more : (own : List (Option ℕ)) (ns : List ℕ) (x j m : ℕ) → j < length ns →
     IsLeast own ns j m → IsLeast own (ns ++ x ∷ []) j m
 least_more own ns x j m h l = record {

@@ -170,7 +170,7 @@ module _ (t : Tree) (ns : List Name) (are : ns ≡ symbols t) where
         later b rs e out.used w
         (all_map InRule _ (λ s w. use_shows s.role w) rs out.of_rules) at h)
 
--- ---- nonterminals behind `%prec`
+-- ---- nonterminals after `%prec`
 
 module _ (t : Tree) (ns : List Name) (k : ℕ) (are : ns ≡ symbols t)
     (few : k ≡ length (tokens t)) where

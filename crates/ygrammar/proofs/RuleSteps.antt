@@ -16,7 +16,7 @@ use Rattle.ysymbols.specs.Names.{Name, number_in}
 use Rattle.ygrammar.specs.Numbered.{chosen_token, inner_numbers, rule_numbers, rule_precedence}
 use Rattle.ysymbols.specs.Grammar.{RuleValue}
 
--- behind other parts the last one is split off as where it stands alone
+-- after other parts the last one is split off as where it stands alone
 last_part : (xs : List BodyPart) (x : BodyPart) → split_last (xs ++ x ∷ []) ≡
     (xs ++ (split_last (x ∷ [])).0, (split_last (x ∷ [])).1)
 last_part [] x = refl
@@ -70,7 +70,7 @@ inner_are ns given k (action t ∷ xs) =
     ap (λ (rs : List RuleValue). inner_numbers ns (inner_rule k t) ∷ rs)
     (inner_are ns given (suc k) xs)
 
--- one more rule of the file is put behind the rules of its inner actions
+-- one more rule of the file is put after the rules of its inner actions
 pub rule_step : (ns : List Name) (given : List (Option Precedence)) (before : Name) (k : ℕ)
     (cv : RuleText) (cs : List RuleText) (items : List BodyPart) (left : Name) (symbols : List ℕ)
     (next l : ℕ) (p : Option Precedence) (old mid new whole : List RuleValue)

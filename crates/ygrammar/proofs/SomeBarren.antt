@@ -169,7 +169,7 @@ module _ (t : Tree) where
     fine_all : AllByRecursion Fine (map rule_left (rules t))
     fine_all = (fine_accept, later)
 
-    -- a symbol behind the tokens is fine
+    -- a symbol after the tokens is fine
     fine_number : (s : ℕ) → length (tokens t) ≤ s → s < length (symbols t) →
         (Productive (bare_of t) s → ⊥) → ⊥
     fine_number s low high never = at_name Fine (map rule_left (rules t)) n fine_all

@@ -388,7 +388,7 @@ lefts_other t s n h = (
       s.first (lefts_tokens t h)) (lefts_tokens t h),
 )
 
--- every left side has a number behind those of the tokens
+-- every left side has a number after those of the tokens
 lefts_above : (t : Tree) → IsTree t → IsNamed t → (Holds t TokenLeft → ⊥) → AllByRecursion
     (λ r. length (tokens t) ≤ number_in (symbols t) r.left) (rules t)
 lefts_above t s n h = each_weaker (λ r. is_token t r.left ≡ false)

@@ -8,7 +8,7 @@ use Rattle.ysymbols.specs.Names.{Name, number_in}
 use Rattle.ydeclarations.specs.Printed.{printed_name}
 use Rattle.ysyntax.specs.Tree.{RuleText, Identifier}
 
--- the next number of an inner action behind rules of the file, from k on
+-- the next number of an inner action after rules of the file, from k on
 abbrev pub inner_after : ℕ → List RuleText → ℕ
 inner_after k [] = k
 inner_after k (c ∷ cs) = inner_after (body_from k (final_of c.last c.body).0).next cs

@@ -63,14 +63,14 @@ IsGiven ns ls upto m k = (j : ℕ) × (l : Listing) × (j < upto) × (slice_get 
 abbrev pub HasNumber : List Name → List (Option ℕ) → List Listing → ℕ → ℕ → ℕ → Type 0
 HasNumber ns own ls upto m k = (slice_get own k ≡ Some (Some m)) ⊎ IsGiven ns ls upto m k
 
--- the listing behind i others gives a number that is out of range, or not before the listing at
+-- the listing after i others gives a number that is out of range, or not before the listing at
 -- fault, or that several tokens hold
 abbrev pub IsFaulty : List Listed → Option ℕ → List Holders → ℕ → Type 0
 IsFaulty ls fault holders i = (l : Listing) × (m : ℕ) × (slice_get (map listed_view ls) i ≡ Some l)
     × (digits_number l ≡ Some m) × ((IsFit m → ⊥) ⊎ ((unwrap_or fault (length ls) ≤ i)
     ⊎ (slice_index_or holders m Nobody ≡ Several)))
 
--- The first faulty number is that of the listing behind i others, and stands at the place.
+-- The first faulty number is that of the listing after i others, and stands at the place.
 pub record IsFirstFaulty (ls : List Listed) (fault : Option ℕ) (holders : List Holders) (at : ℕ)
     : Type 0 where
   pub i : ℕ

@@ -157,7 +157,7 @@ impl Work<'_> {
             Kind::Tag => self.import_sign(around, Reason::InnerType),
             Kind::Equals => self.import_sign(around, Reason::Equals),
             Kind::Number if around.before == Some(Kind::Word) => self.edits.remove(lexeme),
-            Kind::Predicate => self.edits.refuse(Refusal::OtherParser, lexeme),
+            Kind::Predicate => self.edits.refuse(Refusal::Glr, lexeme),
             _ => self.edits.refuse(Refusal::Misplaced, lexeme),
         }
     }

@@ -59,7 +59,7 @@ impl Work<'_> {
                 for lexeme in rest {
                     let mut parts = lexeme.text(self.source).windows(3);
                     if lexeme.kind == Kind::Text && parts.any(|part| part == b"glr".as_slice()) {
-                        self.edits.refuse(Refusal::OtherParser, lexeme);
+                        self.edits.refuse(Refusal::Glr, lexeme);
                     }
                 }
                 Reason::ForItsParser
@@ -109,7 +109,7 @@ impl Work<'_> {
             Directive::Type | Directive::Nterm => self.import_types(directive, word, rest),
             Directive::Start => self.import_start(word, rest),
             Directive::Union => self.import_union(word, rest),
-            Directive::OtherParser => self.edits.refuse(Refusal::OtherParser, word),
+            Directive::Glr => self.edits.refuse(Refusal::Glr, word),
             Directive::NoDefault => self.edits.refuse(Refusal::NoDefault, word),
             Directive::Unknown => self.edits.refuse(Refusal::UnknownWord, word),
             Directive::Prec | Directive::Empty => self.edits.refuse(Refusal::Misplaced, word),

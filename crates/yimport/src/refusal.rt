@@ -8,7 +8,7 @@ use yforeign::lexeme::{Flaw, Span};
 pub enum Refusal {
     Flaw(Flaw),
     UnknownWord,
-    OtherParser,
+    Glr,
     NoDefault,
     SeveralStarts,
     Misplaced,
@@ -60,7 +60,7 @@ impl Refusal {
             Refusal::Flaw(Flaw::BadNumber) => "no number begins here",
             Refusal::Flaw(Flaw::BadReference) => "no name stands in these brackets",
             Refusal::Flaw(Flaw::Foreign) => "neither bison nor byacc has a lexeme that begins here",
-            Refusal::OtherParser => "it asks for another kind of parser",
+            Refusal::Glr => "it asks for a GLR parser, and parsers are LALR(1) here",
             Refusal::NoDefault => "rules of yacc have a precedence without %prec",
             Refusal::SeveralStarts => "yacc has one start symbol",
             Refusal::Misplaced => "it can't stand here",

@@ -1,4 +1,4 @@
--- What stands behind the first symbols of bodies, one rule more.
+-- What stands after the first symbols of bodies, one rule more.
 use Rattle.std.proofs.Common.{ℕ, Bool, true, false, ◌≡◌, ◌<◌, ◌+◌, ◌⊎◌, ◌↔◌, List, length}
 use Rattle.std.proofs.Common.{replicate, sym, ◌∙◌, subst, inl, inr, arith, get_or-set_same}
 use Rattle.std.proofs.Math.ListN.{set}

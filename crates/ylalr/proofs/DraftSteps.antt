@@ -75,7 +75,7 @@ below_dot zero (s ∷ b) x y e = omega arith
 below_dot (suc d) [] x y e = absurd (cc)
 below_dot (suc d) (s ∷ b) x y e = let z = below_dot d b x y e in omega arith
 
--- forms with equal beginnings have equal symbols behind a shorter one
+-- forms with equal beginnings have equal symbols after a shorter one
 before_dot : (d : ℕ) (b c : List ℕ) (x : ℕ) (y : List ℕ) → take (suc d) b ≡ take (suc d) c →
     drop d b ≡ x ∷ y → (take d b ≡ take d c) × ((z : List ℕ) × (drop d c ≡ x ∷ z))
 before_dot zero [] c x y e h = absurd (cc)

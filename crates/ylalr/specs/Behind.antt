@@ -1,4 +1,4 @@
--- What forms begin with, and what stands behind the first symbol of each body.
+-- What forms begin with, and what stands after the first symbol of each body.
 use Rattle.std.specs.Prelude.{ℕ, Bool, List, ◌≡◌, ◌<◌, ◌⊎◌, ◌↔◌, length, drop, take, All}
 use Rattle.std.specs.Prelude.{slice_index}
 use Rattle.ysymbols.specs.Grammar.{ContextFree, body_of}
@@ -21,7 +21,7 @@ AddsAtMost n m y t v w = (r b : ℕ) → Holds w r b → Holds v r b ⊎ ((r ≡
 abbrev pub HasForm : List Bool → BitRows → List ℕ → ℕ → BitRows → Type 0
 HasForm n m y t w = (b : ℕ) → FormHas n m y b → Holds w t b
 
--- what stands behind the first symbol of the body of rule r
+-- what stands after the first symbol of the body of rule r
 abbrev pub rest_of : ContextFree → ℕ → List ℕ
 rest_of g r = drop 1 (body_of g r)
 

@@ -20,7 +20,7 @@ pub record DraftValue : Type 0 where
   pub looks : BitRows
   pub links : List (List ℕ)
 
--- what stands behind the symbol after the dot
+-- what stands after the symbol after the dot
 abbrev pub form_of : Lr0 → Item → List ℕ
 form_of P i = drop (suc i.dot) (body_of P.grammar.bare i.rule)
 

@@ -81,7 +81,7 @@ pub record HasTwin (g : ContextFree) (items : List Item) (rows : List ℕ) (i : 
     pub at : At items rows twin p
     pub shares : Shares g twin i
 
--- the item i, behind these, gets the row p: that of one of them, or one by its left side
+-- the item i, after these, gets the row p: that of one of them, or one by its left side
 abbrev pub TakesOne : ContextFree → List Item → List ℕ → Item → ℕ → List (Option ℕ) →
     List (Option ℕ) → ℕ → Type 0
 TakesOne g items rows i fresh old new p =

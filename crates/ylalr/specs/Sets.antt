@@ -45,7 +45,7 @@ InRange g k = All (λ i. IsWithin g i) k
 abbrev pub Before : Item → Item → Type 0
 Before i j = (i.rule < j.rule) ⊎ ((i.rule ≡ j.rule) × (i.dot < j.dot))
 
--- each item comes before those behind it
+-- each item comes before those after it
 abbrev pub IsAscending : List Item → Type 0
 IsAscending k = AllPairs Before k
 

@@ -182,7 +182,7 @@ by_cases : {P : Type 0} (t : Bool) → (t ≡ true → P) → (t ≡ false → P
 by_cases true f g = f refl
 by_cases false f g = g refl
 
--- behind a closing brace
+-- after a closing brace
 closed : (d : ℕ) (bs rest : List ℕ) → close d bs (closes Outside (d - 1) bs) ≡ Some rest →
     ((e : ℕ) → d ≡ suc e → closes Outside e bs ≡ Some rest → Ends e bs rest) →
     Ends d (125 ∷ bs) rest

@@ -540,7 +540,7 @@ pub no_literal_of_scan : (bytes tail : List ℕ) (a : Answer) → bytes ≡ 39 �
 no_literal_of_scan bytes tail a first e none v rest (t, h, w) =
     none v rest (sym e ∙ literal_found t tail rest v h (sym first ∙ w))
 
--- the quote at the front, and what is behind it
+-- the quote at the front, and what is after it
 pub quoted_front : (bytes tail : List ℕ) → 0 < length bytes → get_or bytes 0 0 ≡ 39 →
     tail ≡ drop 1 bytes → bytes ≡ 39 ∷ tail
 quoted_front [] tail h e b = absurd (omega arith)

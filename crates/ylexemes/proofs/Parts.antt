@@ -181,7 +181,7 @@ pub spelling_one : (s z : Sign) → spelling s ≡ spelling z → s ≡ z
 spelling_one s z e =
     let w : Some s ≡ Some z = sym (named_back s) ∙ ap sign_named e ∙ named_back z in cc
 
--- no percent word has a brace behind its percent sign
+-- no percent word has a brace after its percent sign
 pub no_brace : (s : Sign) → eqb (get_or (spelling s) 1 0) 123 ≡ false
 no_brace sign.Mark = refl
 no_brace sign.Token = refl

@@ -16,7 +16,7 @@ abbrev pub is_name_start : ℕ → Bool
 is_name_start b = (nat_le 65 b && nat_le b 90) || (nat_le 97 b && nat_le b 122) || b == 46
     || b == 95
 
--- a byte that a name can have behind its first
+-- a byte that a name can have after its first
 abbrev pub is_name_byte : ℕ → Bool
 is_name_byte b = is_name_start b || is_digit b
 
@@ -35,13 +35,13 @@ abbrev pub has_pair : ℕ → ℕ → List ℕ → Bool
 has_pair a b [] = false
 has_pair a b (x ∷ xs) = (x == a && begins (λ y. y == b) xs) || has_pair a b xs
 
--- a, b, what doesn't have the pair c and d, and the first c and d behind it
+-- a, b, what doesn't have the pair c and d, and the first c and d after it
 pub record IsBetween (a b c d : ℕ) (text : List ℕ) : Type 0 where
   pub inside : List ℕ
   pub whole : text ≡ a ∷ b ∷ inside ++ c ∷ d ∷ []
   pub first : has_pair c d (inside ++ c ∷ []) ≡ false
 
--- `/*` to the first `*/` behind it
+-- `/*` to the first `*/` after it
 abbrev pub IsComment : List ℕ → Type 0
 IsComment text = IsBetween 47 42 42 47 text
 

@@ -75,7 +75,7 @@ abbrev pub FindsLiteral : List ℕ → Option (ℕ × Bor (List ℕ)) → Type 0
 FindsLiteral bytes None = (value : ℕ) (rest : List ℕ) → LiteralAt bytes value rest → ⊥
 FindsLiteral bytes (Some (value, rest)) = LiteralAt bytes value rest.now
 
--- what stands between two quotes q, a backslash taking the byte behind it along
+-- what stands between two quotes q, a backslash taking the byte after it along
 pub data IsInside (q : ℕ) : List ℕ → Type 0 where
   nothing : IsInside q []
   byte : {b : ℕ} {text : List ℕ} → b ≢ q → b ≢ 92 → IsInside q text → IsInside q (b ∷ text)

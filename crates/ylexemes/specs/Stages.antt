@@ -16,7 +16,7 @@ is_plain b = nat_le 32 b && nat_le b 126 && not (b == 39) && not (b == 92)
 abbrev pub digit_in : ℕ → ℕ → Option ℕ
 digit_in radix b = if nat_lt (digit_value b) radix then Some (digit_value b) else None
 
--- the stage behind the first quote and this byte
+-- the stage after the first quote and this byte
 abbrev pub after_quote : ℕ → Option Stage
 after_quote b = if is_plain b then Some (Shut b) else if b == 92 then Some Backslash else None
 
@@ -44,7 +44,7 @@ abbrev pub after_backslash_with : ℕ → Option ℕ → Option Stage
 after_backslash_with b (Some value) = Some (Shut value)
 after_backslash_with b None = if b == 120 then Some HexMark else more_octals 0 0 b
 
--- the stage behind a backslash and this byte
+-- the stage after a backslash and this byte
 abbrev pub after_backslash : ℕ → Option Stage
 after_backslash b = after_backslash_with b (escape_value b)
 

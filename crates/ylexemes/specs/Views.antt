@@ -20,7 +20,7 @@ abbrev pub slice_of : Option (Bor (List ℕ)) → Option (List ℕ)
 slice_of None = None
 slice_of (Some s) = Some s.now
 
--- what follows the first a that has b behind it
+-- what follows the first a that has b after it
 abbrev pub pair_after : ℕ → ℕ → List ℕ → Option (List ℕ)
 pair_after a b [] = None
 pair_after a b (x ∷ xs) = cond (x == a && begins (λ y. y == b) xs) (Some (drop 1 xs))
@@ -85,7 +85,7 @@ sign_of b =
     else if b == 59 then Some sign.Semicolon
     else None
 
--- the lexeme that a word behind a percent sign is
+-- the lexeme that a word after a percent sign is
 abbrev pub word_of : List ℕ → Option Sign
 word_of w =
     if bytes_eq w (codes "token") then Some sign.Token

@@ -39,7 +39,7 @@ below_drop n zero es h = h
 below_drop n (suc k) [] h = refl
 below_drop n (suc k) (e ∷ es) h = below_drop n k es (second _ _ h)
 
--- a part of a list that lies in it isn't changed by what comes behind
+-- a part of a list that lies in it isn't changed by what comes after
 pub part_append : (from count : ℕ) (xs ys : List StackEntry) → from + count ≤ length xs
     → take count (drop from (xs ++ ys)) ≡ take count (drop from xs)
 part_append from count xs ys h =

@@ -131,7 +131,7 @@ zero_at_start {g = g} w (closure {r = r} {d = d} {s = s} {y = y} v e h f) z k =
     absurd (All-head (λ x. x ≢ left_of g 0) (left_of g s) y all (ap (left_of g) z))
 zero_at_start w (move v e h) z k = absurd (omega arith)
 
--- the first rule's dot behind its first symbol: the prefix is that symbol
+-- the first rule's dot after its first symbol: the prefix is that symbol
 pub at_accept : {g : ContextFree} {p : List ℕ} {a : ℕ} (w : WellFormed g) → Valid g p 0 1 a
     → reverse p ≡ start_of g ∷ []
 at_accept {g = g} w v =

@@ -128,7 +128,7 @@ module _ (g : ContextFree) (m : Machine) (w : WellFormed g) (s : IsSound g m) wh
   form_kept {c = c} {n = n} later (drops t rest d e k st re mo) x y =
       unmoved c n _ later st (ap (λ z. shifts_from z later) k)
 
-  -- an undone reduction replaces its left side, with tokens alone behind it
+  -- an undone reduction replaces its left side, with tokens alone after it
   pub form_replaced : {c n : Configuration} {k : StepKind} (later : List ℕ) → Stepped m c k n
       → is_reduction k ≡ true → All (IsToken g) later
       → (s : Replaces (IsRule g) (form_of n later) (form_of c (shifts_from k later)))

@@ -245,7 +245,7 @@ regroup text sent piece head rest e =
     e ∙ sym (append_assoc sent piece (head ++ rest)) ∙ sym (append_assoc (sent ++ piece) head rest)
 
 module _ {W X : Type 0} (contents : W → Option (List ℕ)) where
-  -- a piece that was cut behind what was sent cuts the whole
+  -- a piece that was cut after what was sent cuts the whole
   pub cut-behind : (a b c : Link W) (o : Option X) (text sent piece rest : List ℕ) → o ≡ None
       → text ≡ sent ++ (piece ++ rest) → Sends contents a b true sent
       → Sends contents b c false piece → Sends contents a c (is_some o) text

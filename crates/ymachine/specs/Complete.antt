@@ -5,7 +5,7 @@ use Rattle.ylalr.specs.Items.{Valid}
 use Rattle.ymachine.specs.Cells.{Expects, Ends}
 use Rattle.ymachine.specs.Machine.{Machine, Shift, Reduce, Accept}
 
--- A cell shifts whatever an item expects, reduces by each rule that may end, and accepts behind the
+-- A cell shifts whatever an item expects, reduces by each rule that may end, and accepts after the
 -- start symbol.
 pub record IsComplete (g : ContextFree) (m : Machine) : Type 0 where
   pub shift : (stack : List ℕ) (t : ℕ) → IsToken g t → Expects g (reverse stack) t

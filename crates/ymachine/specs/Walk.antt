@@ -10,7 +10,7 @@ use Rattle.ymachine.specs.Machine.{Machine}
 use Rattle.ymachine.specs.Content.{node_tree, all_below}
 use Rattle.ymachine.specs.Unwinding.{trees_text}
 
--- an open node: the place of its next child, and the place behind its last
+-- an open node: the place of its next child, and the place after its last
 abbrev pub frame : ℕ → ℕ → Frame
 frame next end = record { next = next; end = end }
 

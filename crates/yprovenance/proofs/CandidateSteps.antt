@@ -49,7 +49,7 @@ module _ (m : Collection) (u : Guide) (q t : ℕ) where
   rules_whole = rules_same 0 (state_of m q) ∙ rules_ready (bare_of m) (λ i. u.looks q i t)
       (state_of m q) (state_of m q) refl
 
-  -- behind the last item there is none
+  -- after the last item there is none
   pub none_behind : (n : ℕ) → length (state_of m q) ≤ n → candidates_in m u q t n ≡ []
   none_behind n h = go (drop n (state_of m q)) (length-drop n (state_of m q))
     where

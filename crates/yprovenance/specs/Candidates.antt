@@ -50,7 +50,7 @@ candidates_in m u q t index = candidates_of m u q t index (drop index (state_of 
 abbrev pub rules_of : List Candidate → List ℕ
 rules_of candidates = map (λ (c : Candidate). c.rule) candidates
 
--- the candidate stands in the state at the index or behind it
+-- the candidate stands in the state at the index or after it
 pub record IsFurther (m : Collection) (q index : ℕ) (c : Candidate) : Type 0 where
   pub further : index ≤ c.index
   pub within : c.index < length (state_of m q)

@@ -37,7 +37,7 @@ record Extends (g : ContextFree) (front : List ℕ) : Type 0 where
   pub derives : Derives (IsRule g) (body_of g 0) (front ++ rest)
   pub known : All (λ s. s < g.symbols) rest
 
--- a valid item's prefix, and what stands behind its dot, begin such a form
+-- a valid item's prefix, and what stands after its dot, begin such a form
 extends_valid : {g : ContextFree} {p : List ℕ} {r d a : ℕ} → WellFormed g → Valid g p r d a
     → Extends g (reverse p ++ drop d (body_of g r))
 extends_valid {g = g} w start = record {

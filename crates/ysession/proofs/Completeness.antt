@@ -145,7 +145,7 @@ module _ (g : ContextFree) (m : Machine) (w : WellFormed g) (s : IsSound g m)
       ∙ f.accept (symbols c.stack) end_token v)) refl e l
 
   module _ (tokens : List ℕ) (input : AreInput g tokens) where
-    -- An accepted history without error steps, and the forms that it unwinds to behind the first.
+    -- An accepted history without error steps, and the forms that it unwinds to after the first.
     record Reached (more : List (List ℕ)) : Type 0 where
       pub h : History
       pub run : IsQuiet m tokens h

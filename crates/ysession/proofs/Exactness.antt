@@ -115,7 +115,7 @@ module _ (g : ContextFree) (m : Machine) (w : WellFormed g) (s : IsSound g m)
         all_back (IsToken g) t.word (tokens_left now.rest)
         (subst (All (IsToken g)) (shifted_all t.shifted) input)
 
-    -- the upcoming tokens up to the cutting, with the sentence's tokens behind
+    -- the upcoming tokens up to the cutting, with the sentence's tokens after
     abbrev Goes : Configuration → Type 0
     Goes c = (e : List ℕ) → tokens_left c.rest ≡ e ++ back → Along g (prefix_of c) (e ++ other_back)
 

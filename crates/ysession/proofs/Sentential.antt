@@ -153,7 +153,7 @@ pub expects_within : {g : ContextFree} (q : List ℕ) (x : ℕ) (p : List ℕ) {
 expects_within [] x p v = expects_last v
 expects_within (z ∷ q) x p v = expects_within q x p (expects_last v).valid
 
--- At a form of a rightmost derivation, the rules of a nonterminal begin behind what stands before
+-- At a form of a rightmost derivation, the rules of a nonterminal begin after what stands before
 -- it, and what the rest becomes is ahead.
 abbrev NewAt : ContextFree → List ℕ → Type 0
 NewAt g x = (front : List ℕ) (r : ℕ) (behind u : List ℕ) → x ≡ front ++ left_of g r ∷ behind
@@ -208,7 +208,7 @@ module _ {g : ContextFree} {x y : List ℕ} (w : WellFormed g) (d : Sent g x) (s
       subst (λ z. Valid g z r 0 (ahead u)) p
       (subst (λ z. Valid g (reverse mid ++ reverse s.before) r 0 (ahead z)) (sym q.parts) t)
 
-  -- it can't stand among the tokens behind
+  -- it can't stand among the tokens after
   new_behind : (mid : List ℕ) → s.after ≡ mid ++ left_of g r ∷ behind → ⊥
   new_behind mid e =
       let l = all_middle (IsToken g) mid (left_of g r) behind (subst (All (IsToken g)) e k) in

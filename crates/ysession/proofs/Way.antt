@@ -32,7 +32,7 @@ pub data Wants (g : ContextFree) {x : List ℕ} (d : Sent g x) (p u : List ℕ) 
   wants_accept : u ≡ [] → Valid g p 0 1 end_token
       → ((more : List (List ℕ)) → listed d more ≡ more) → Wants g d p u
 
--- the left side stands where the next body begins or later, since behind that body are tokens alone
+-- the left side stands where the next body begins or later, since after that body are tokens alone
 ready_next : {g : ContextFree} {x : List ℕ} → WellFormed g → (d : Sent g x) → (below : List ℕ)
     (r : ℕ) (u : List ℕ) → r < length g.rules → x ≡ reverse below ++ left_of g r ∷ u
     → Ready d (left_of g r ∷ below) u

@@ -10,7 +10,7 @@ use Rattle.ysymbols.specs.Forms.{IsRule}
 use Rattle.ysymbols.specs.WellFormed.{WellFormed}
 use Rattle.ysymbols.proofs.Derivations.{trans, beside, replaced, rule_is}
 
--- what holds of all elements holds of those in front, of those behind, and of one between
+-- what holds of all elements holds of those in front, of those after, and of one between
 pub all_front : {X : Type 0} (P : X → Type 0) (xs ys : List X) → All P (xs ++ ys) → All P xs
 all_front P [] ys h = All-nil P
 all_front P (x ∷ xs) ys h =
@@ -24,7 +24,7 @@ pub all_middle : {X : Type 0} (P : X → Type 0) (xs : List X) (x : X) (ys : Lis
     → All P (xs ++ x ∷ ys) → P x
 all_middle P xs x ys h = All-head P x ys (all_back P xs (x ∷ ys) h)
 
--- the first of a list and what is behind it
+-- the first of a list and what is after it
 pub head_is : (x y : ℕ) (xs ys : List ℕ) → x ∷ xs ≡ y ∷ ys → x ≡ y
 head_is x y xs ys e = ap (λ z. get_or z 0 0) e
 

@@ -36,7 +36,7 @@ IsSoundOf g w (Rejected place) = BeginsSentence g (take (place - 1) w)
 IsSoundOf g w Limit = Unit {0}
 
 -- Where no cell has a choice: the tokens up to and with the place of a rejection begin no
--- sentence; at the place behind the last token, the list is no sentence.
+-- sentence; at the place after the last token, the list is no sentence.
 abbrev pub IsExactOf : ContextFree → List ℕ → Verdict → Type 0
 IsExactOf g w (Rejected place) =
     (place ≤ length w → BeginsSentence g (take place w) → ⊥)

@@ -27,7 +27,7 @@ pub record IsQuiet (m : Machine) (tokens : List ℕ) (h : History) : Type 0 wher
   pub steps : NoEdits h.earlier
   pub quiet : NoDetect h.earlier
 
--- the place of the first upcoming token, or of the end: one behind the last token
+-- the place of the first upcoming token, or of the end: one after the last token
 abbrev pub place_ahead : List ℕ → List (ℕ × ℕ) → ℕ
 place_ahead tokens [] = suc (length tokens)
 place_ahead tokens (token ∷ rest) = token.1

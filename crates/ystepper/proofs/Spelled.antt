@@ -30,7 +30,7 @@ option_both P f None d found none = none
 some_is : {X : Type 0} (x y : X) → Some x ≡ Some y → x ≡ y
 some_is x y e = cc
 
--- what stands behind a word
+-- what stands after a word
 text_is : (word line rest : List ℕ) → text_after word line ≡ Some rest → line ≡ word ++ rest
 text_is word line rest =
     cond_both (nat_le (length word) (length line) && bytes_eq (take (length word) line) word)

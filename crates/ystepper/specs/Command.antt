@@ -71,7 +71,7 @@ command_of line =
     else (if bytes_eq line (codes "drop") then Drop
     else option_map_or Insert (text_after (codes "insert ") line) (number_command line)))))
 
--- a word, and behind it one to seven decimal digits, whose value lies from the least one to
+-- a word, and after it one to seven decimal digits, whose value lies from the least one to
 -- 1,000,000
 pub record IsNumbered (least : ℕ) (word : List ℕ) (n : ℕ) (line : List ℕ) : Type 0 where
   pub digits : List ℕ

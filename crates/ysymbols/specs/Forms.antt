@@ -52,7 +52,7 @@ abbrev pub IsRun : ContextFree → List ℕ → List (List ℕ) → Type 0
 IsRun g x [] = Unit {0}
 IsRun g x (y ∷ more) = Replaces (IsRule g) x y × IsRun g y more
 
--- such a run, in which only tokens stand behind each replaced nonterminal
+-- such a run, in which only tokens stand after each replaced nonterminal
 abbrev pub IsRightmostRun : ContextFree → List ℕ → List (List ℕ) → Type 0
 IsRightmostRun g x [] = Unit {0}
 IsRightmostRun g x (y ∷ more) = ((s : Replaces (IsRule g) x y) × All (IsToken g) s.after)

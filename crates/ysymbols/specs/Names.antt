@@ -18,11 +18,11 @@ printed_literal v =
 abbrev pub is_among : List Name → Name → Bool
 is_among ns n = list_any (bytes_eq n) ns
 
--- the names with one more behind them, unless it is there
+-- the names with one more after them, unless it is there
 abbrev pub with_name : List Name → Name → List Name
 with_name ns n = if is_among ns n then ns else ns ++ n ∷ []
 
--- the names with those of more behind them, each once, in the order of their first appearance
+-- the names with those of more after them, each once, in the order of their first appearance
 abbrev pub with_names : List Name → List Name → List Name
 with_names ns more = fold with_name ns more
 

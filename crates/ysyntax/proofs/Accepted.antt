@@ -70,12 +70,12 @@ data Tagged : State → Type 0 where
   untagged : Tagged ListWord
   tagged : Tagged ListTagged
 
--- states behind an entry
+-- states after an entry
 data Behind : State → Type 0 where
   plain : Behind Listed
   numbered_rule : Behind Numbered
 
--- states behind a rule
+-- states after a rule
 data Ruled : State → Type 0 where
   bare : Ruled Body
   named : Ruled PrecNamed
@@ -210,7 +210,7 @@ a_list y w t n e (k, ek, isr) mt mn = λ q b.
           (rword_move q k b isr) (then mt.leads last.leads);
     })
 
--- a rule's body and precedence, behind a name or a bar
+-- a rule's body and precedence, after a name or a bar
 rule_end : (y b p : List Kind) → y ≡ b ++ p → Meaning rbody b → Meaning prec p → To Ruled Body y
 unfolding Meaning
 rule_end y b p e mb mp = subst (To Ruled Body) (sym e)

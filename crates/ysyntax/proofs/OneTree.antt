@@ -42,7 +42,7 @@ module _ {A : Type 0} (f : A → List Lexeme) (p : Lexeme → Bool)
   option_one cancel (Some a) (Some b) x y h k e = let s = cancel a b x y e in
       record { one = ap Some s.one; rest = s.rest }
 
-  -- q is a test that fails behind no item: what may not follow an item
+  -- q is a test that fails after no item: what may not follow an item
   module _ (P : A → Type 0) (q : Lexeme → Bool) (calm : (a : A) (x : List Lexeme) →
       first q (f a ++ x) ≡ false)
       (cancel : (a b : A) (x y : List Lexeme) → P a → P b → first q x ≡ false → first q y ≡ false →
@@ -413,7 +413,7 @@ semis_one (suc n) (suc m) x y h k e =
     let s = semis_one n m x y h k (let z : semis n ++ x ≡ semis m ++ y = cc in z) in
     record { one = ap suc s.one; rest = s.rest }
 
--- what a test answers behind semicolons, where it fails at a semicolon
+-- what a test answers after semicolons, where it fails at a semicolon
 semis_first : (p : Lexeme → Bool) (n : ℕ) (x : List Lexeme) → p (fixed sign.Semicolon) ≡ false →
     first p x ≡ false → first p (semis n ++ x) ≡ false
 semis_first p zero x h k = k
@@ -442,13 +442,13 @@ items (braced n) h = refl
 items (fixed s) h = cc
 items _ h = cc
 
--- behind a precedence no precedence follows
+-- after a precedence no precedence follows
 braced_first : (t : Option (List ℕ)) (n : ℕ) (x : List Lexeme) → first goes_on_rule x ≡ false →
     first is_prec (braced_yield t ++ (semis n ++ x)) ≡ false
 braced_first None n x h = semis_first is_prec n x refl (weaker is_prec goes_on_rule precs x h)
 braced_first (Some t) n x h = refl
 
--- behind a body no item follows
+-- after a body no item follows
 end_first : (p : Option Identifier) (t : Option (List ℕ)) (n : ℕ) (x : List Lexeme) →
     (IsSome t → IsSome p) → first goes_on_rule x ≡ false →
     first is_item (prec_yield p ++ (braced_yield t ++ (semis n ++ x))) ≡ false

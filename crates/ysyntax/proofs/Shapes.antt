@@ -108,7 +108,7 @@ form (semicolons f) = front f ++ rbody ∷ prec ∷ []
 abbrev Form : List Symbol → List Symbol → Type 0
 Form x y = Derives Production x y
 
--- one production behind a front, and then a derivation
+-- one production after a front, and then a derivation
 at : (a b : List Symbol) (n : Symbol) (w : List Symbol) {z : List Symbol} → Production n w →
     Form (a ++ (w ++ b)) z → Form (a ++ n ∷ b) z
 at a b n w p d = trans (replaced n w a b p) d
@@ -163,7 +163,7 @@ typed_done : Form (defs ∷ []) (defs ∷ lexeme kind.Types ∷ lexeme kind.Less
     lexeme kind.Greater ∷ tlist ∷ [])
 typed_done = at [] [] defs _ defs_more (at (defs ∷ []) [] def _ def_type done)
 
--- a further entry, behind one that has no number yet
+-- a further entry, after one that has no number yet
 next_entry : (g : List Symbol) (k : Kind) (p : Production identifier (lexeme k ∷ [])) →
     Form (defs ∷ rword ∷ tag ∷ nlist ∷ []) g → Form (defs ∷ rword ∷ tag ∷ nlist ∷ identifier ∷ [])
     (g ++ lexeme k ∷ [])
@@ -192,7 +192,7 @@ marked : (g : List Symbol) → Form (defs ∷ lexeme kind.Mark ∷ rules ∷ [])
 marked g d = at [] [] spec _ spec_is (at (defs ∷ lexeme kind.Mark ∷ rules ∷ []) [] tail _ tail_mark
     (within [] (lexeme kind.Mark ∷ []) d))
 
--- a lexeme behind a rule that is done
+-- a lexeme after a rule that is done
 rule_then : (f : Front) (k : Kind) → MovedTo (after_rule k)
     (front f ++ rbody ∷ prec ∷ lexeme k ∷ [])
 rule_then first kind.Semicolon = by (semicolons first)
@@ -222,7 +222,7 @@ rule_then c_identifier kind.Mark = by whole (marked (front c_identifier ++ rbody
 rule_then bar kind.Mark = by whole (marked (front bar ++ rbody ∷ prec ∷ []) (ruled bar))
 rule_then _ _ = tt
 
--- a lexeme behind a body without `%prec`
+-- a lexeme after a body without `%prec`
 body_then : (f : Front) (k : Kind) → MovedTo (after_rule k) (front f ++ rbody ∷ lexeme k ∷ [])
 body_then first k = weaken (after_rule k) (rule_then first k)
     (replaced prec [] (front first ++ rbody ∷ []) (lexeme k ∷ []) prec_empty)

@@ -1,4 +1,4 @@
--- The sites of lexemes behind others, and those of a tree.
+-- The sites of lexemes after others, and those of a tree.
 use Rattle.std.proofs.Common.{ℕ, ◌≡◌, ◌+◌, Bool, true, false, List, [], ◌∷◌, ◌++◌, length, map}
 use Rattle.std.proofs.Common.{Option, Some, None, take, drop, refl, sym, ap, ◌∙◌, arith}
 use Rattle.std.proofs.Common.{length-append}
@@ -59,13 +59,13 @@ counted (p ∷ ls) =
     let both = length-append (naming (lexeme_view p.lexeme) p.at) (named_in ls) in
     omega (arith, again, one, both)
 
--- ---- lexemes behind others
+-- ---- lexemes after others
 
 named_append : (a b : List Placed) → named_in (a ++ b) ≡ named_in a ++ named_in b
 named_append a b = ap namings (map-append placed_mark a b)
     ∙ flat_map-append (λ (m : Mark). naming m.what m.at) (map placed_mark a) (map placed_mark b)
 
--- of two lists that are one, each cut in two, what is behind is the same where it is as long
+-- of two lists that are one, each cut in two, what is after is the same where it is as long
 cut_same : {A : Type 0} (xs ys us vs : List A) → xs ++ ys ≡ us ++ vs → length ys ≡ length vs →
     ys ≡ vs
 cut_same {A = A} xs ys us vs e l =
@@ -76,7 +76,7 @@ cut_same {A = A} xs ys us vs e l =
     sym (drop-append_seam xs ys) ∙ ap (drop (length xs)) e
     ∙ ap (λ k. drop k (us ++ vs)) n ∙ drop-append_seam us vs
 
--- the sites of what is left behind a piece are those of the rest
+-- the sites of what is left after a piece are those of the rest
 pub named_behind : (n : ℕ) (ls rest : List Placed) (front : List Mark) →
     named_in ls ≡ front ++ named_in rest → views (drop n ls) ≡ views rest →
     named_in (drop n ls) ≡ named_in rest
@@ -98,7 +98,7 @@ mark_named b ls v = nothing (named_in ls) (counted ls ∙ ap count v ∙ go b)
     go true = refl
     go false = refl
 
--- the sites of two pieces, and nothing behind them
+-- the sites of two pieces, and nothing after them
 pub two_pieces : (xs ys : List Site) (whole rest last : List Mark) →
     whole ≡ site_marks xs ++ rest → rest ≡ site_marks ys ++ last → last ≡ [] →
     whole ≡ site_marks (xs ++ ys)

@@ -1,4 +1,4 @@
--- What goes on behind a piece of a syntax tree, by the recogniser's states.
+-- What goes on after a piece of a syntax tree, by the recogniser's states.
 use Rattle.std.proofs.Common.{ℕ, zero, suc, ◌≡◌, ◌<◌, ◌+◌, ◌-◌, ◌⊎◌, inl, inr, Bool, true, false}
 use Rattle.std.proofs.Common.{List, []}
 use Rattle.std.proofs.Common.{◌∷◌, ◌++◌, eqb, map, drop, length, ◌≤◌, Option, Some, None, IsSome}
@@ -296,7 +296,7 @@ last_goes None before after (none, e) h = subst (Goes Semicolons) e (go before n
     go (_ ∷ ls) n h = h
 last_goes (Some t) before after e h = subst (Goes PrecNamed) e h
 
--- behind its word stands a precedence, and an action perhaps
+-- after its word stands a precedence, and an action perhaps
 pub precedence_taken : (i : Option Identifier) (t : Option (List ℕ))
     (before between after : List Lexeme) → Goes PrecWord before →
     Takes identifier_yield i before between → Takes braced t between after →
@@ -330,7 +330,7 @@ first_named : (left : Option (List ℕ)) (ls : List Lexeme) → Goes RulesMark (
 first_named (Some n) ls h = refl
 first_named None ls h = astray (kinds ls) h
 
--- behind the second mark nothing follows
+-- after the second mark nothing follows
 pub rules_end : (ls : List Lexeme) → Goes Semicolons ls → NoSign sign.Semicolon ls →
     NoneOf left_yield ls → (b : Bool) × (ls ≡ mark_yield b)
 rules_end [] h n m = (false, refl)
@@ -397,7 +397,7 @@ pub one_more_shaped : {A B : Type 0} (P : B → Type 0) (v : A → B) (xs new : 
 one_more_shaped P v xs new x a p h = all_more P (map v xs) (map v new) (v x) a p
     (ap (map v) h ∙ map-append v xs (x ∷ []))
 
--- what is left behind a piece is the rest of the lexemes
+-- what is left after a piece is the rest of the lexemes
 pub left_behind : (ls rest : List Placed) (front : List Lexeme) (l : Lexeme) →
     views ls ≡ front ++ l ∷ views rest →
     (length rest ≤ length ls) × (views (drop (length ls - length rest) ls) ≡ views rest)
@@ -476,7 +476,7 @@ one_more_semicolon whole rest next (n, e, l) h =
       omega (arith, a, c, d, l),
     )
 
--- before the first rule, or behind one
+-- before the first rule, or after one
 abbrev pub FirstNamed : List CodeRuleText → List Lexeme → Type 0
 FirstNamed cs rest = (Goes RulesMark rest × (cs ≡ [])) ⊎ BeginsWithName (map rule_text_view cs)
 
@@ -499,7 +499,7 @@ pub first_there : (xs : List CodeRuleText) (rest : List Lexeme) → FirstNamed x
 first_there xs rest (inl (g, e)) n = absurd (left_there rest g n)
 first_there xs rest (inr b) n = b
 
--- a mark is what is left behind the rules, where something is
+-- a mark is what is left after the rules, where something is
 pub end_marked : (ls : List Placed) (b e : Bool) → views ls ≡ mark_yield b →
     e ≡ eqb (length ls) 0 → views ls ≡ mark_yield (not e)
 end_marked [] true e f g = cc

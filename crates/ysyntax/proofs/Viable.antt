@@ -1,4 +1,4 @@
--- The recogniser has a state behind exactly the lists that begin a grammar file.
+-- The recogniser has a state after exactly the lists that begin a grammar file.
 use Rattle.std.proofs.Common.{◌≡◌, List, [], ◌∷◌, ◌++◌, Some, None, true, false, refl, ap, ◌∙◌}
 use Rattle.ylexemes.specs.declared.kind.Kind.{Kind}
 use Rattle.ylexemes.specs.declared.kind.Kind.TheVariants as kind

@@ -72,7 +72,7 @@ pub record IsLine (bytes rest : List ℕ) (line : ℕ) : Type 0 where
   pub whole : bytes ≡ before ++ rest
   pub counted : line ≡ newlines before + 1
 
--- Why reading stops behind these lexemes, and with which outcome.
+-- Why reading stops after these lexemes, and with which outcome.
 pub data Stops (ls : List Lexeme) (rest : List ℕ) (line : ℕ) : Result (List Lexeme) Refusal →
     Type 0 where
   ended : rest ≡ [] → IsSpec (kinds ls) → Stops ls rest line (Ok ls)

@@ -19,12 +19,12 @@ pub record Mark : Type 0 where
 abbrev pub mark : Lexeme → ℕ → Mark
 mark l at = record { what = l; at = at }
 
--- the lexeme behind these of a file: reading comes to its place, and it stands there
+-- the lexeme after these of a file: reading comes to its place, and it stands there
 pub record StandsBehind (source : List ℕ) (before : List Lexeme) (m : Mark) : Type 0 where
   pub comes : ComesTo source before (drop m.at source)
   pub here : (rest : List ℕ) × PartAt (drop m.at source) (lexeme m.what) rest
 
--- they stand in the file one behind another, these before them
+-- they stand in the file one after another, these before them
 abbrev pub StandFrom : List ℕ → List Lexeme → List Mark → Type 0
 StandFrom source before [] = Unit {0}
 StandFrom source before (m ∷ ms) =

@@ -40,7 +40,7 @@ pub record RuleText : Type 0 where
   pub left : Option (List ℕ)
   pub body : List BodyPart
   pub prec : Option Identifier
-  -- the action behind the precedence
+  -- the action after the precedence
   pub last : Option (List ℕ)
   pub semicolons : ℕ
 
@@ -88,7 +88,7 @@ abbrev pub left_yield : Option (List ℕ) → Lexeme
 left_yield None = fixed sign.Bar
 left_yield (Some n) = c_identifier n
 
--- what stands behind a body: a precedence, an action and semicolons
+-- what stands after a body: a precedence, an action and semicolons
 abbrev pub end_yield : Option Identifier → Option (List ℕ) → ℕ → List Lexeme
 end_yield prec last semicolons = option_yield (λ i. fixed sign.Prec ∷ identifier_yield i ∷ []) prec
     ++ (option_yield (λ t. braced t ∷ []) last ++ replicate semicolons (fixed sign.Semicolon))
@@ -112,7 +112,7 @@ IsDefinition (listing w tag es) = 0 < length es
 IsDefinition (types tag ns) = 0 < length ns
 IsDefinition _ = Unit {0}
 
--- an action stands behind a precedence only where there is one
+-- an action stands after a precedence only where there is one
 abbrev pub IsRuleText : RuleText → Type 0
 IsRuleText c = IsSome c.last → IsSome c.prec
 
@@ -120,7 +120,7 @@ abbrev pub BeginsWithName : List RuleText → Type 0
 BeginsWithName [] = ⊥
 BeginsWithName (c ∷ cs) = IsSome c.left
 
--- no listing is empty, an action stands behind a precedence only where there is one, and the first
+-- no listing is empty, an action stands after a precedence only where there is one, and the first
 -- rule has a name
 pub record IsTree (t : Tree) : Type 0 where
   pub definitions : AllByRecursion IsDefinition t.definitions

@@ -14,7 +14,7 @@ use Rattle.ysyntax.specs.Answers.{views}
 use Rattle.ysyntax.specs.Tree.{IsDefinition, body_part_yield, definition_yield, tag_yield}
 use Rattle.ysyntax.specs.TreeViews.{definition_view}
 
--- behind what led to a state, the lexemes make a grammar file
+-- after what led to a state, the lexemes make a grammar file
 abbrev pub GoesOn : State → List Placed → Type 0
 GoesOn q ls = run q (kinds (views ls)) ≡ true
 
@@ -46,14 +46,14 @@ TakesTag None before after = ((n : List ℕ) (rest : List Lexeme) → before ≡
     × (before ≡ after)
 TakesTag (Some n) before after = before ≡ tag_yield n ++ after
 
--- A declaration was taken off the lexemes before, and those behind go on.
+-- A declaration was taken off the lexemes before, and those after go on.
 pub record IsDeclared (before : List Lexeme) (d : CodeDefinition) (after : List Placed) :
     Type 0 where
   pub whole : before ≡ definition_yield (definition_view d) ++ views after
   pub shaped : IsDefinition (definition_view d)
   pub goes_on : GoesOn Declarations after
 
--- a declaration was read, behind its word
+-- a declaration was read, after its word
 abbrev pub IsRead : Sign → CodeDefinition → List Placed → List Placed → Type 0
 IsRead word d before after = IsDeclared (fixed word ∷ views before) d after
 
@@ -62,7 +62,7 @@ abbrev pub ReadsDeclaration : Sign → Option CodeDefinition → List Placed →
 ReadsDeclaration word None before after = ⊥
 ReadsDeclaration word (Some d) before after = IsRead word d before after
 
--- a declaration was read, or the mark behind the last
+-- a declaration was read, or the mark after the last
 abbrev pub ReadsOrMark : Option CodeDefinition → List Lexeme → List Placed → Type 0
 ReadsOrMark None before after = (before ≡ fixed Mark ∷ views after) × GoesOn RulesMark after
 ReadsOrMark (Some d) before after = IsDeclared before d after

@@ -1,4 +1,4 @@
--- A goto stands behind an item with the dot before its symbol; one more state in the rows of gotos.
+-- A goto stands after an item with the dot before its symbol; one more state in the rows of gotos.
 use Rattle.std.proofs.Common.{ℕ, ◌≡◌, ◌≢◌, ◌+◌, ◌-◌, ◌<◌, ◌≤◌, ◌⊎◌, ◌||◌, Bool, true, false, List}
 use Rattle.std.proofs.Common.{[], ◌∷◌, length, take, drop, get_or, set, nat_eq, refl, sym, ap, ◌∙◌}
 use Rattle.std.proofs.Common.{subst, inl, inr, arith, Option, Some, None, if◌then◌else◌}
@@ -17,7 +17,7 @@ use Rattle.ybitsets.specs.Packed.{PackedRows, entry_of, IsPushed}
 use Rattle.ytables.specs.Tables.{after_dot, begins_with, is_before, has_before, AreGotosTo}
 use Rattle.ytables.specs.Tables.{AreGotos}
 
--- an item that is valid behind x comes from one with its dot before x
+-- an item that is valid after x comes from one with its dot before x
 source : (g : ContextFree) (x : ℕ) (p : List ℕ) {s : List ℕ} {r d a : ℕ} → Valid g s r d a →
     s ≡ x ∷ p → (i : Item) × InCore g p i × ((y : List ℕ) × (after_dot g i ≡ x ∷ y))
 source g x p start e = cc

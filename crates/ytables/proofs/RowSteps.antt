@@ -261,7 +261,7 @@ whole_row m u q before row rule shifts reduces chosen len marks cells e =
           (filter is_filled l)) whole.actions;
     }
 
--- what stands behind a dot in the body, and at its end
+-- what stands after a dot in the body, and at its end
 pub empty_no : (l : List ℕ) (n : ℕ) → n < length l → is_empty (drop n l) ≡ false
 empty_no l n h = ap is_empty (drop-cons l n 0 h)
 

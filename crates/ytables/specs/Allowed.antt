@@ -12,7 +12,7 @@ use Rattle.ytables.specs.Tables.{TablesValue, after_dot, action_at}
 abbrev pub complete_of : ContextFree → ℕ → Item
 complete_of g r = record { rule = r; dot = length (body_of g r) }
 
--- the item of rule 0 with its dot behind the start symbol
+-- the item of rule 0 with its dot after the start symbol
 abbrev pub accept_item : Item
 accept_item = record { rule = 0; dot = 1 }
 

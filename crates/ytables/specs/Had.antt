@@ -15,7 +15,7 @@ NoChoice m u = (q t : ℕ) → q < length m.states → IsToken (bare_of m) t →
     (cell_in m u q t).choice ≡ false
 
 -- The tables shift what an item has its dot before, reduce by each rule at the lookaheads of its
--- complete item, and accept behind the start symbol.
+-- complete item, and accept after the start symbol.
 pub record CellsHave (v : TablesValue) : Type 0 where
   pub shift : (q t : ℕ) → q < length v.built.states → IsToken (bare_of v.built) t →
       ShiftsIn (bare_of v.built) (state_of v.built q) t → (n : ℕ) × (action_at v q t ≡ Shift n)

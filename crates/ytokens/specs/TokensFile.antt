@@ -36,7 +36,7 @@ FrontAt bytes (word name rest) = WordAt bytes name rest
 FrontAt bytes broken = (begins (λ b. b == 39) bytes ≡ true)
     × ((name rest : List ℕ) → WordAt bytes name rest → ⊥)
 
--- this stands behind the blanks at the front
+-- this stands after the blanks at the front
 pub record FrontIs (bytes : List ℕ) (front : Front) : Type 0 where
   pub gap : List ℕ
   pub here : List ℕ
@@ -45,7 +45,7 @@ pub record FrontIs (bytes : List ℕ) (front : Front) : Type 0 where
   pub no_blank : begins is_blank here ≡ false
   pub stands : FrontAt here front
 
--- what a front says behind some tokens: one more token and what follows it, or the answer for the
+-- what a front says after some tokens: one more token and what follows it, or the answer for the
 -- rest
 pub data Says : Type 0 where
   token : (symbol : ℕ) (rest : List ℕ) → Says
@@ -62,7 +62,7 @@ by_name tokens place (Some symbol) rest =
 abbrev pub most_tokens : ℕ
 most_tokens = 1000000
 
--- behind n tokens: at the end the answer is fine; where no more tokens may follow, anything else is
+-- after n tokens: at the end the answer is fine; where no more tokens may follow, anything else is
 -- K3; before that a quote that begins no literal is K5
 abbrev pub says : (List ℕ → Option ℕ) → ℕ → ℕ → Front → Says
 says find tokens n nothing = answer (Ok [])
@@ -73,7 +73,7 @@ says find tokens n broken =
     if nat_lt n most_tokens then answer (Err (faults.BadLiteral (suc n)))
     else answer (Err faults.TooMany)
 
--- behind n tokens, this comes next
+-- after n tokens, this comes next
 abbrev pub Comes : (List ℕ → Option ℕ) → ℕ → ℕ → List ℕ → Says → Type 0
 Comes find tokens n bytes said =
     (front : Front) × FrontIs bytes front × (says find tokens n front ≡ said)
@@ -83,7 +83,7 @@ abbrev pub with_token : ℕ → Result (List ℕ) TokenFault → Result (List �
 with_token symbol (Ok symbols) = Ok (symbol ∷ symbols)
 with_token symbol (Err fault) = Err fault
 
--- behind n tokens, so many more are named, and then comes the answer
+-- after n tokens, so many more are named, and then comes the answer
 abbrev pub Reads : (List ℕ → Option ℕ) → ℕ → ℕ → ℕ → List ℕ → Result (List ℕ) TokenFault → Type 0
 Reads find tokens zero n bytes result = Comes find tokens n bytes (answer result)
 Reads find tokens (suc k) n bytes result =
@@ -91,7 +91,7 @@ Reads find tokens (suc k) n bytes result =
     × Comes find tokens n bytes (token symbol rest) × Reads find tokens k (suc n) rest more
     × (result ≡ with_token symbol more)
 
--- the tokens that are still to be read behind n tokens, or the first fault among them
+-- the tokens that are still to be read after n tokens, or the first fault among them
 abbrev pub Outcome : (List ℕ → Option ℕ) → ℕ → ℕ → List ℕ → Result (List ℕ) TokenFault → Type 0
 Outcome find tokens n bytes result = (k : ℕ) × Reads find tokens k n bytes result
 

@@ -17,7 +17,7 @@ entering : (c : After-mark) →
 entering c = c.in-Some.ensures.items
     ∙ ap (λ (x : Turn). c.pop.new.self.items ++ x ∷ []) c.in-Enter.is
 
--- the turns behind it
+-- the turns after it
 skipped : (c : After-mark) →
     AreTurns c.loop-turn.seen c.pop.new.self.items c.loop-turn.order.items
 skipped c = turns_skip c.loop-turn.seen c.loop-turn.turns.items c.pop.new.self.items c.in-Enter.p

@@ -11,7 +11,7 @@ use Rattle.ydeclarations.proofs.WrongSteps.{wrong_none_at}
 use Rattle.ydeclarations.proofs.given.given_numbers.Goals.{Joined-listed-i, in_default, in-Some}
 use Rattle.ydeclarations.proofs.given.given_numbers.Goals as goal
 
--- the numbers of the listings behind the loop's
+-- the numbers of the listings after the loop's
 abbrev more : (c : Joined-listed-i) → List (Option ℕ) → Option ℕ → Type 0
 more c table fault = TellsNumbers c.args.tokens.now
     (map listed_view (drop (c.loop-i.i + 1) c.args.listed.now)) (map listed_view c.args.listed.now)

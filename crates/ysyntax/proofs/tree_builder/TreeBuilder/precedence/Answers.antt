@@ -10,7 +10,7 @@ use Rattle.ysyntax.proofs.TreeSteps.{Goes, no_precedence, precedence_taken}
 use Rattle.ysyntax.proofs.tree_builder.TreeBuilder.precedence.Goals.{After-text-last}
 use Rattle.ysyntax.proofs.tree_builder.TreeBuilder.precedence.Goals as goal
 
--- the precedence that stands there, and what goes on behind it
+-- the precedence that stands there, and what goes on after it
 taken : (c : After-text-last) →
     let i = option_view occurrence_view c.occurrence-symbol.result in
     let t = option_view braced_view c.text-last.result in
