@@ -1,4 +1,4 @@
-/* Settings, one behind another; a line that is spoiled is passed over up to its semicolon. */
+/* Settings, one after another; a line that is spoiled is passed over up to its semicolon. */
 %token NAME NUMBER
 %%
 settings : /* nothing */
