@@ -44,10 +44,19 @@ def kind_of(words, folder):
     return BUILD if "--crate-checked" in words else PROOF
 
 
+def counted(pid):
+    """What the system counts of a process, from its third number on."""
+    return Path(f"/proc/{pid}/stat").read_text().rpartition(")")[2].split()
+
+
 def spent_by(pid):
     """The seconds of a processor that a process and those that it has waited for have taken."""
-    told = Path(f"/proc/{pid}/stat").read_text().rpartition(")")[2].split()
-    return sum(map(int, told[11:15])) / TICKS
+    return sum(map(int, counted(pid)[11:15])) / TICKS
+
+
+def born(pid):
+    """When a process began, in ticks since the system did: a later one may have its number."""
+    return int(counted(pid)[19])
 
 
 def children_of(pid):
@@ -86,11 +95,12 @@ class Clock:
         for pid, words in below(self.pid):
             crate = crate_in(words)
             with suppress(OSError):
-                if crate and pid not in self.seen:
+                one = pid, born(pid)
+                if crate and one not in self.seen:
                     kind = kind_of(words, os.readlink(f"/proc/{pid}/cwd"))
-                    self.seen[pid] = Seen(crate, kind, now, now, 0.0)
-                if pid in self.seen:
-                    self.seen[pid].ended, self.seen[pid].spent = now, spent_by(pid)
+                    self.seen[one] = Seen(crate, kind, now, now, 0.0)
+                if one in self.seen:
+                    self.seen[one].ended, self.seen[one].spent = now, spent_by(pid)
 
     def run(self):
         """Looks again and again."""

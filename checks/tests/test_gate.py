@@ -1,6 +1,7 @@
 """The gate, the quick checks, and what is counted."""
 import contextlib
 import io
+import os
 import re
 import subprocess
 import sys
@@ -208,6 +209,17 @@ check("--crate-name", "high", "--test")
         self.assertLess(max(began["low"], began["other"]), began["high"])
         self.assertTrue(any(it.began < it.ended for it in seen), seen)
         self.assertEqual([*clock.below(running.pid)], [], "it has ended, and nothing is below it")
+
+    def test_number_again(self):
+        """A process that has the number of one that has ended is another."""
+        looking = clock.Clock(os.getpid(), 60)
+        for began, crate in ((1, "low"), (2, "high")):
+            found = [(os.getpid(), ["kit/rattle", "--crate-name", crate])]
+            with mock.patch.object(clock, "below", return_value=found), \
+                    mock.patch.object(clock, "born", return_value=began):
+                looking.look()
+        looking.stopped.set()
+        self.assertEqual([it.crate for it in looking.seen.values()], ["low", "high"])
 
     def test_kinds(self):
         """Words and folders say what a check is for, and another program is none."""
