@@ -267,7 +267,7 @@ def wrong_warnings(text, diagnostics):
 
 
 def lines_of(diagnostics):
-    """Diagnostics as gcc has them, but for the places of notes."""
+    """Diagnostics as gcc has them, except the places of notes."""
     for it in diagnostics:
         front = ":".join(str(it[at]) for at in ("file", "line", "column") if it[at] is not None)
         category = f" [-W{it['category']}]" if it["category"] else ""

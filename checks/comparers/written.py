@@ -86,7 +86,7 @@ def input_in(spec, line):
 
 def fault_of_messages(folder, ydebug, spec, counts):
     """What is wrong with a listing of errors; nothing where its texts have the tokens that are told,
-    and it is taken as a file of messages, which stays as it is when it is written anew, but for the
+    and it is taken as a file of messages, which stays as it is when it is written anew, except the
     order of states without a text."""
     status, out, message = run(folder, ydebug, "errors", "grammar.y", "--lex", "spec")
     blocks = [(it[1], " ".join(it[2].replace("\n##", " ").split())) for it in BLOCK.finditer(out)]

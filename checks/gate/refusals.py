@@ -55,7 +55,7 @@ class Said:
         return self.functions.get(name, "").startswith(("not proved", "no proof"))
 
     def reasons(self, name):
-        """What the function's line says of itself, but for its callees."""
+        """What the function's line says of itself, except its callees."""
         told = self.functions.get(name, "").partition(": ")[2]
         return [it for it in told.split("; ") if it and not it.startswith(CALLEE)]
 
@@ -102,7 +102,7 @@ class Said:
         return [it for it in self.errors(function.name) if LOST.search(it)]
 
     def strays(self, functions):
-        """The functions but for some, and closures in them, that aren't proved for reasons of their
+        """The functions except some, and closures in them, that aren't proved for reasons of their
         own."""
         known = tuple(f"{it.name}::" for it in functions)
         return [

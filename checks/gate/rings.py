@@ -93,7 +93,7 @@ def meant(whole, texts, homes):
 
 
 def texts_of(src):
-    """The text of each module but for tests, also those in files of their own."""
+    """The text of each module except tests, also those in files of their own."""
     texts = {module_of(file, src): COMMENT.sub("", file.read_text()) for file in src.rglob("*.rt")}
     tests = {(*module, name) for module, text in texts.items() for name in TESTS.findall(text)}
     return {module: without_tests(text) for module, text in texts.items() if module not in tests}

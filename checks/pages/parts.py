@@ -1,4 +1,4 @@
-"""The text of a page but for its data, from the sources of `yhtml`."""
+"""The text of a page except its data, from the sources of `yhtml`."""
 import json
 import re
 

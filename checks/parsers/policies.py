@@ -4,7 +4,7 @@
 
 Over N grammars drawn at random (40) and lists of tokens for each, right and wrong ones, parsers
 under `most` write the traces of bison's, byte for byte, with the same numbers of states and rules, and
-come with the same reports, but for counterexamples.
+come with the same reports, except counterexamples.
 Under `consistent` with `parse.lac full` they make the steps of bison's, with the same texts of
 errors, and under `sole` those of byacc's: when a token is read, what is shifted and reduced, what
 is popped and discarded after an error, and how a parse ends. The traces of the peers tell their

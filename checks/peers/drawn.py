@@ -52,7 +52,7 @@ TOKEN = re.compile(r"(?m)^(?:#define\s+|\s+)(\w+)\s*(?:=\s*)?(\d+)\s*,?\s*(?:/\*
 # An error, without the name that a compiler proposes.
 ERROR = re.compile(r"(?m)^([^\n:]*):(?:\d+:)*\s*(?:fatal )?error: (.*?)(?:; did you mean .*)?$")
 LACKING = re.compile(r"fatal error: (\S+): No such file")
-# The words for a parser that is its peer's: as a whole, or but for what neither compiles.
+# The words for a parser that is its peer's: as a whole, or except for what neither compiles.
 ALIKE, PARTLY = "alike", "alike where it compiles"
 # The most folders that are searched for headers, and how many of these are made up where they lack.
 FOLDERS, MADE_UP, CONFIGURES, COMPILES = 150, 25, 240, 60

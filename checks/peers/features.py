@@ -11,11 +11,11 @@ ycc's place.
 
 Each file of checks/data/features/told begins with a comment `PEER tells: WORDS`: with these words for
 both, the peer and ycc have to end with the same status and say the same warnings and errors in the
-same places, but for what bison says of changes that it would make to a file. Of conflicts that a file
+same places, except what bison says of changes that it would make to a file. Of conflicts that a file
 doesn't expect bison says no place; of byacc's the line on conflicts counts.
 
 Each file of checks/data/features/graphs begins with a comment `PEER draws: WORDS`: with these words the
-graphs of the peer and of ycc have to be the same, byte for byte, but for the numbers of states in
+graphs of the peer and of ycc have to be the same, byte for byte, except the numbers of states in
 byacc's. So have bison's reports, short ones and those on all but counterexamples, in ASCII and in
 UTF-8; the page that ycc writes has the text of its report.
 
@@ -23,7 +23,7 @@ Each file of checks/data/features/refused has to be refused with status 1, a mes
 file and the line below its comment `refused below: WORDS`, and has these words; no file may be
 written.
 
-A line of `case` has a key and words; but for `peer` each may be left out. In words for programs a
+A line of `case` has a key and words; each but `peer` may be left out. In words for programs a
 newline may stand as in C:
 
     peer bison byacc                  each is a case of its own, and so is

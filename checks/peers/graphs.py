@@ -2,7 +2,7 @@
 
 Each numbers states and symbols in its own way: so states are numbered anew, as a walk over ways in
 the order of their names meets them, and the ways of a state are put in the order of these. All else
-has to be the same, byte for byte, but for comments at the head.
+has to be the same, byte for byte, except comments at the head.
 """
 import re
 

@@ -190,7 +190,7 @@ class Rule:
         return [it for it in self.parts if it is not None]
 
     def inner_actions(self):
-        """Actions but for the final one."""
+        """Actions except the final one."""
         is_final = self.parts[-1:] == [None] and not self.has_action_after_prec
         return self.parts.count(None) - is_final
 
@@ -298,7 +298,7 @@ def second_precedence(file):
 
 
 def holders_of(file):
-    """The tokens that hold each number, but for those that get one that no other has."""
+    """The tokens that hold each number, except those that get one that no other has."""
     given = {symbol for symbol, _, _ in file.numbers}
     held = [(number, symbol) for symbol, number, _ in file.numbers]
     held += [(it, it) for it in file.literals - given]

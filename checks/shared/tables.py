@@ -50,7 +50,7 @@ class Canonical:
         return self.grammar.rules[item[0]].body[item[1] :]
 
     def ahead(self, items):
-        """The symbols that some item has its dot before, but for the end."""
+        """The symbols that some item has its dot before, except the end."""
         return {self.rest(it)[0] for it in items if self.rest(it)} - {END}
 
     def closure(self, items):
